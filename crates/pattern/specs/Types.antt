@@ -1,0 +1,80 @@
+-- The types that document 01 counts, and what their making functions answer.
+-- Assumes nothing.
+use mathlib.Core.Path.{_≡_, refl, ap}
+use mathlib.Core.Bool.{Bool, true, false}
+use Prim.Native.Nat.{ℕ, _≤_, _<_}
+use borrow.Author.Tests.{le-leb, lt-leb}
+use lib.Dec.{leb}
+use Rattle.pattern.specs.declared.types.NameMade.{NameMade}
+use Rattle.pattern.specs.declared.types.PropertyMade.{PropertyMade}
+use Rattle.pattern.specs.declared.types.AxisMade.{AxisMade}
+use Rattle.pattern.specs.declared.types.Channel.{Channel}
+use Rattle.pattern.specs.declared.types.ChannelMade.{ChannelMade}
+use Rattle.pattern.specs.declared.types.Sign.{Sign}
+use Rattle.pattern.specs.declared.types.Comparison.{Comparison}
+
+-- 01: "Names run from 0 to 127, properties 0 to 31, axes 0 to 7, channels 0 to 3."
+abbrev pub maxName : ℕ
+maxName = 127
+
+abbrev pub maxProperty : ℕ
+maxProperty = 31
+
+abbrev pub maxAxis : ℕ
+maxAxis = 7
+
+abbrev pub maxChannel : ℕ
+maxChannel = 3
+
+-- What a making function answers: the number that it was handed, or that this is out of range.
+pub data Made : Type 0 where
+  made : ℕ → Made
+  outOfRange : Made
+
+abbrev pub madeIf : Bool → ℕ → Made
+madeIf true n = made n
+madeIf false n = outOfRange
+
+-- a number up to the largest is made, any other is out of range
+abbrev pub make : ℕ → ℕ → Made
+make largest n = madeIf (leb n largest) n
+
+pub make-in : (largest n : ℕ) → n ≤ largest → make largest n ≡ made n
+make-in largest n h = rw (le-leb n largest h)
+
+pub make-out : (largest n : ℕ) → largest < n → make largest n ≡ outOfRange
+make-out largest n h = rw (lt-leb n largest h)
+
+-- 01's number of each channel
+abbrev pub channelNumber : Channel → ℕ
+channelNumber Channel.C0 = 0
+channelNumber Channel.C1 = 1
+channelNumber Channel.C2 = 2
+channelNumber Channel.C3 = 3
+
+-- 01's number for each answer of a making function
+abbrev pub nameMade : NameMade → Made
+nameMade (NameMade.Made i) = made (i .number)
+nameMade NameMade.OutOfRange = outOfRange
+
+abbrev pub propertyMade : PropertyMade → Made
+propertyMade (PropertyMade.Made p) = made (p .number)
+propertyMade PropertyMade.OutOfRange = outOfRange
+
+abbrev pub axisMade : AxisMade → Made
+axisMade (AxisMade.Made a) = made (a .number)
+axisMade AxisMade.OutOfRange = outOfRange
+
+abbrev pub channelMade : ChannelMade → Made
+channelMade (ChannelMade.Made e) = made (channelNumber e)
+channelMade ChannelMade.OutOfRange = outOfRange
+
+-- has for lacks, is for is not, held for barred, and back
+abbrev pub opposite : Sign → Sign
+opposite Sign.Positive = Sign.Negative
+opposite Sign.Negative = Sign.Positive
+
+-- 01, rule 16: "the other of same and differ"
+abbrev pub otherOf : Comparison → Comparison
+otherOf Comparison.Same = Comparison.Differ
+otherOf Comparison.Differ = Comparison.Same

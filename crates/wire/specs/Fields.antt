@@ -1,0 +1,42 @@
+-- The fields that the files of document 01 have in common: a mark at the front, and 16-bit little-endian numbers.
+-- Assumes nothing.
+use mathlib.Core.Path.{_≡_, refl, ap, _∙_}
+use mathlib.Core.Bool.{Bool, true, false, _&&_, and-false}
+use mathlib.Core.List.{List, [], _∷_}
+use Prim.Native.Nat.{ℕ, zero, suc, _+_, _*_, _≤_, _<_}
+use native.Mathlib.Nat.{le-of-suc-le-suc, not-suc-le-zero}
+use native.Mathlib.Omega.{arith}
+use borrow.Author.Tests.{eq-eqb, ne-eqb}
+use lib.ListN.{getD, length}
+use lib.Dec.{eqb}
+
+-- 01: "Each file's three-letter mark is a fixed byte string compared with the first bytes of the lent slice": byte for byte
+abbrev pub beginsWith : List ℕ → List ℕ → Bool
+beginsWith [] s = true
+beginsWith (m ∷ ms) [] = false
+beginsWith (m ∷ ms) (b ∷ bs) = eqb b m && beginsWith ms bs
+
+-- 01: "All 16-bit fields in every file are little-endian."
+abbrev pub wordAt : List ℕ → ℕ → ℕ
+wordAt s i = getD s i 0 + getD s (i + 1) 0 * 256
+
+-- too short for the mark
+pub begins-short : (m s : List ℕ) → length s < length m → beginsWith m s ≡ false
+begins-short [] s h = absurd (not-suc-le-zero h)
+begins-short (m ∷ ms) [] h = refl
+begins-short (m ∷ ms) (b ∷ bs) h = rw (begins-short ms bs (le-of-suc-le-suc h)) (and-false (eqb b m))
+
+-- one byte of the mark that differs
+pub begins-differs : (m s : List ℕ) (i : ℕ) → i < length m → i < length s → (getD s i 0 ≡ getD m i 0 → ⊥) → beginsWith m s ≡ false
+begins-differs [] s i h k d = absurd (not-suc-le-zero h)
+begins-differs (m ∷ ms) [] i h k d = refl
+begins-differs (m ∷ ms) (b ∷ bs) zero h k d = rw (ne-eqb b m d)
+begins-differs (m ∷ ms) (b ∷ bs) (suc i) h k d =
+    rw (begins-differs ms bs i (le-of-suc-le-suc h) (le-of-suc-le-suc k) d) (and-false (eqb b m))
+
+-- all bytes of the mark
+pub begins-same : (m s : List ℕ) → length m ≤ length s → ((i : ℕ) → i < length m → getD s i 0 ≡ getD m i 0) → beginsWith m s ≡ true
+begins-same [] s h e = refl
+begins-same (m ∷ ms) [] h e = absurd (not-suc-le-zero h)
+begins-same (m ∷ ms) (b ∷ bs) h e =
+    rw (eq-eqb b m (e zero (omega arith)), begins-same ms bs (le-of-suc-le-suc h) (λ i k. e (suc i) (omega arith)))
