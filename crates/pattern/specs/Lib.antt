@@ -3,3 +3,7 @@ pub mod Syntax
 pub mod Semantics
 pub mod Finite
 pub mod Coincidence
+pub mod Finding
+pub mod Range
+pub mod Table
+pub mod Entries

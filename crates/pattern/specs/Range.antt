@@ -1,0 +1,83 @@
+-- The numbers below a bound: whether some number passes a test, and a check of each in turn.
+-- Assumes nothing.
+use mathlib.Core.Path.{_≡_, refl, sym, subst}
+use mathlib.Core.Bool.{Bool, true, false, _||_, or-true}
+use mathlib.Core.Logic.{_⊎_, inl, inr}
+use Prim.Native.Nat.{ℕ, zero, suc, _+_, _<_}
+use native.Mathlib.Nat.{not-suc-le-zero, le-of-suc-le-suc, eq-or-lt-of-le}
+use native.Mathlib.Numerals.{add-one}
+use Rattle.pattern.specs.Finding.{Check, passes, refuses, _then_, then-passes}
+
+-- some number below n passes the test
+unfoldable pub someBelow : ℕ → (ℕ → Bool) → Bool
+someBelow zero test = false
+someBelow (suc n) test = someBelow n test || test n
+
+-- each number below n is checked, in rising order
+unfoldable pub eachBelow : ℕ → (ℕ → Check) → Check
+eachBelow zero check = passes
+eachBelow (suc n) check = eachBelow n check then check n
+
+pub or-false-both : (a b : Bool) → a || b ≡ false → (a ≡ false) × (b ≡ false)
+or-false-both true b h = (h, cc)
+or-false-both false b h = (refl, h)
+
+module _ (test : ℕ → Bool) where
+  pub none-below-zero : someBelow 0 test ≡ false
+  unfolding someBelow
+  none-below-zero = refl
+
+  pub none-below-more : (n : ℕ) → someBelow n test ≡ false → test n ≡ false → someBelow (n + 1) test ≡ false
+  unfolding someBelow
+  none-below-more n h e = rw (add-one, h, e)
+
+  pub some-at : (n k : ℕ) → k < n → test k ≡ true → someBelow n test ≡ true
+  unfolding someBelow
+  some-at zero k h e = absurd (not-suc-le-zero h)
+  some-at (suc n) k h e = go (eq-or-lt-of-le (le-of-suc-le-suc h)) (λ l. some-at n k l e)
+    where
+      go : (k ≡ n) ⊎ (k < n) → (k < n → someBelow n test ≡ true) → someBelow n test || test n ≡ true
+      go (inl p) f = rw (← p, e) (or-true (someBelow k test))
+      go (inr l) f = rw (f l)
+
+  pub none-at : (n k : ℕ) → someBelow n test ≡ false → k < n → test k ≡ false
+  unfolding someBelow
+  none-at zero k e h = absurd (not-suc-le-zero h)
+  none-at (suc n) k e h = go (eq-or-lt-of-le (le-of-suc-le-suc h)) (or-false-both _ _ e)
+      (λ l. none-at n k (or-false-both _ _ e .0) l)
+    where
+      go : (k ≡ n) ⊎ (k < n) → (someBelow n test ≡ false) × (test n ≡ false) → (k < n → test k ≡ false) → test k ≡ false
+      go (inl p) b f = rw p (b .1)
+      go (inr l) b f = f l
+
+module _ (check : ℕ → Check) where
+  pub each-below-zero : eachBelow 0 check ≡ passes
+  unfolding eachBelow
+  each-below-zero = refl
+
+  pub each-below-more : (n : ℕ) → eachBelow n check ≡ passes → check n ≡ passes → eachBelow (n + 1) check ≡ passes
+  unfolding eachBelow
+  each-below-more n h e = rw (add-one, h, e)
+
+  -- the first refusal decides
+  pub each-first : (n k number place : ℕ) → k < n → eachBelow k check ≡ passes → check k ≡ refuses number place
+      → eachBelow n check ≡ refuses number place
+  unfolding eachBelow
+  each-first zero k number place h e r = absurd (not-suc-le-zero h)
+  each-first (suc n) k number place h e r = go (eq-or-lt-of-le (le-of-suc-le-suc h)) (λ l. each-first n k number place l e r)
+    where
+      go : (k ≡ n) ⊎ (k < n) → (k < n → eachBelow n check ≡ refuses number place)
+          → eachBelow n check then check n ≡ refuses number place
+      go (inl p) f = rw (← p, e, r)
+      go (inr l) f = rw (f l)
+
+  pub each-at : (n k : ℕ) → eachBelow n check ≡ passes → k < n → check k ≡ passes
+  unfolding eachBelow
+  each-at zero k e h = absurd (not-suc-le-zero h)
+  each-at (suc n) k e h = go (eq-or-lt-of-le (le-of-suc-le-suc h)) (then-passes _ _ e)
+      (λ l. each-at n k (then-passes (eachBelow n check) (check n) e .0) l)
+    where
+      go : (k ≡ n) ⊎ (k < n) → (eachBelow n check ≡ passes) × (check n ≡ passes) → (k < n → check k ≡ passes)
+          → check k ≡ passes
+      go (inl p) b f = rw p (b .1)
+      go (inr l) b f = f l

@@ -1,0 +1,111 @@
+// Document 01's table of entries: the kinds, which of them are nodes and which are paths, and what
+// the three fields of each hold.
+ghost use mathlib.Core.Path.{_≡_};
+ghost use Rattle.pattern.specs.Table.{kindOf, sortOf, formOf};
+
+pub enum Kind {
+    Property,
+    Name,
+    Not,
+    Both,
+    After,
+    Same,
+    Differ,
+    Step,
+    Jump,
+    Test,
+    Fork,
+    Unknown,
+}
+
+pub enum Sort {
+    Node,
+    Path,
+    Neither,
+}
+
+// What a field holds: one of the numbers of `types`, or a reference to a node entry or to a path.
+pub enum Field {
+    Unused,
+    Property,
+    Name,
+    Axis,
+    Channel,
+    Node,
+    Path,
+}
+
+// What the fields x, y and z of a kind hold.
+pub struct Form {
+    pub x: Field,
+    pub y: Field,
+    pub z: Field,
+}
+
+// The path reference that means end of path.
+pub const END: u8 = 255;
+
+impl Kind {
+    pub fn of(number: u8) -> Kind
+        ensures { λ r. ⌜ r ≡ kindOf number ⌝ }
+    {
+        match number {
+            1 => Kind::Property,
+            2 => Kind::Name,
+            3 => Kind::Not,
+            4 => Kind::Both,
+            5 => Kind::After,
+            6 => Kind::Same,
+            7 => Kind::Differ,
+            8 => Kind::Step,
+            9 => Kind::Jump,
+            10 => Kind::Test,
+            11 => Kind::Fork,
+            _ => Kind::Unknown,
+        }
+    }
+
+    pub fn sort(self) -> Sort
+        ensures { λ r. ⌜ r ≡ sortOf self ⌝ }
+    {
+        match self {
+            Kind::Property => Sort::Node,
+            Kind::Name => Sort::Node,
+            Kind::Not => Sort::Node,
+            Kind::Both => Sort::Node,
+            Kind::After => Sort::Node,
+            Kind::Same => Sort::Node,
+            Kind::Differ => Sort::Node,
+            Kind::Step => Sort::Path,
+            Kind::Jump => Sort::Path,
+            Kind::Test => Sort::Path,
+            Kind::Fork => Sort::Path,
+            Kind::Unknown => Sort::Neither,
+        }
+    }
+
+    pub fn form(self) -> Form
+        ensures { λ r. ⌜ r ≡ formOf self ⌝ }
+    {
+        match self {
+            Kind::Property => row(Field::Property, Field::Unused, Field::Unused),
+            Kind::Name => row(Field::Name, Field::Unused, Field::Unused),
+            Kind::Not => row(Field::Node, Field::Unused, Field::Unused),
+            Kind::Both => row(Field::Node, Field::Node, Field::Unused),
+            Kind::After => row(Field::Axis, Field::Node, Field::Unused),
+            Kind::Same => row(Field::Channel, Field::Path, Field::Path),
+            Kind::Differ => row(Field::Channel, Field::Path, Field::Path),
+            Kind::Step => row(Field::Axis, Field::Path, Field::Unused),
+            Kind::Jump => row(Field::Name, Field::Path, Field::Unused),
+            Kind::Test => row(Field::Node, Field::Path, Field::Unused),
+            Kind::Fork => row(Field::Path, Field::Path, Field::Unused),
+            Kind::Unknown => row(Field::Unused, Field::Unused, Field::Unused),
+        }
+    }
+}
+
+fn row(x: Field, y: Field, z: Field) -> Form
+    ensures { λ r. ⌜ r ≡ record { x = x; y = y; z = z } ⌝ }
+{
+    Form { x, y, z }
+}
