@@ -7,3 +7,4 @@ pub mod Finding
 pub mod Range
 pub mod Table
 pub mod Entries
+pub mod Reading

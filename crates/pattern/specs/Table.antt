@@ -20,6 +20,10 @@ abbrev pub kindOf : ℕ → Kind
 kindOf zero = Kind.Unknown
 kindOf (suc n) = getD kinds n Kind.Unknown
 
+-- "A path reference 255 means end of path."
+abbrev pub endOfPath : ℕ
+endOfPath = 255
+
 -- "Kinds 1 to 7 are nodes, 8 to 11 paths."
 abbrev pub sortOf : Kind → Sort
 sortOf Kind.Property = Sort.Node
@@ -53,10 +57,10 @@ formOf Kind.Test = row Field.Node Field.Path Field.Unused
 formOf Kind.Fork = row Field.Path Field.Path Field.Unused
 formOf Kind.Unknown = row Field.Unused Field.Unused Field.Unused
 
-abbrev pub isUnknown : Sort → Bool
-isUnknown Sort.Node = false
-isUnknown Sort.Path = false
-isUnknown Sort.Neither = true
+abbrev pub isNeither : Sort → Bool
+isNeither Sort.Node = false
+isNeither Sort.Path = false
+isNeither Sort.Neither = true
 
 abbrev pub isNode : Sort → Bool
 isNode Sort.Node = true

@@ -45,6 +45,20 @@ make-in largest n h = rw (le-leb n largest h)
 pub make-out : (largest n : ℕ) → largest < n → make largest n ≡ outOfRange
 make-out largest n h = rw (lt-leb n largest h)
 
+pub made-within : (largest n k : ℕ) → made k ≡ make largest n → leb n largest ≡ true
+made-within largest n k e = go (leb n largest) e
+  where
+    go : (b : Bool) → made k ≡ madeIf b n → b ≡ true
+    go true h = refl
+    go false h = cc
+
+pub out-beyond : (largest n : ℕ) → outOfRange ≡ make largest n → leb n largest ≡ false
+out-beyond largest n e = go (leb n largest) e
+  where
+    go : (b : Bool) → outOfRange ≡ madeIf b n → b ≡ false
+    go true h = cc
+    go false h = refl
+
 -- 01's number of each channel
 abbrev pub channelNumber : Channel → ℕ
 channelNumber Channel.C0 = 0

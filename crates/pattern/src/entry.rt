@@ -1,6 +1,5 @@
 // One entry of a pattern file: four bytes, its kind and its fields x, y and z.
 use crate::table::Kind;
-
 ghost use mathlib.Core.Path.{_≡_};
 ghost use Prim.Native.Nat.{_+_, _*_, _≤_};
 ghost use lib.ListN.{length};

@@ -1,1 +1,239 @@
-// Reading a pattern: document 01's refusals 1 to 8, in its order.
+// Reading a pattern: document 01's refusals 1 to 8, in its order. Each check answers that it passed
+// or the refusal, and the first refusal decides.
+use crate::entry::Entry;
+use crate::entry::same_entry;
+use crate::table::END;
+use crate::table::Field;
+use crate::table::Sort;
+use crate::types::Axis;
+use crate::types::AxisMade;
+use crate::types::Channel;
+use crate::types::ChannelMade;
+use crate::types::Name;
+use crate::types::NameMade;
+use crate::types::Property;
+use crate::types::PropertyMade;
+ghost use mathlib.Core.Path.{_≡_};
+ghost use Prim.Native.Nat.{_+_, _*_, _≤_};
+ghost use lib.ListN.{length};
+ghost use Rattle.pattern.specs.Range.{eachBelow};
+ghost use Rattle.pattern.specs.Reading.{inRange, fieldsInRange, sortAt, earlierSort, refersBack, allReferBack, repeatsAt, headerCheck, entryCheck, readingOf, checkOf, findingOf};
+
+// Document 01's refusals 1 to 8; those that have a place hold the entry's number.
+pub enum PatternRefusal {
+    Mark,
+    Version,
+    Count,
+    Kind(u8),
+    Field(u8),
+    Reference(u8),
+    Repeat(u8),
+    RootPath(u8),
+}
+
+pub enum PatternCheck {
+    Passed,
+    Refused(PatternRefusal),
+}
+
+// What reading a pattern finds: its number of entries, or the first refusal.
+pub enum PatternRead {
+    Read(u8),
+    Refused(PatternRefusal),
+}
+
+// Whether the value of a field is in the range of what the field holds.
+fn in_range(field: Field, value: u8) -> bool
+    ensures { λ r. ⌜ r ≡ inRange field value ⌝ }
+{
+    match field {
+        Field::Unused => value == 0,
+        Field::Property => match Property::of(value) {
+            PropertyMade::Made(_) => true,
+            PropertyMade::OutOfRange => false,
+        },
+        Field::Name => match Name::of(value) {
+            NameMade::Made(_) => true,
+            NameMade::OutOfRange => false,
+        },
+        Field::Axis => match Axis::of(value) {
+            AxisMade::Made(_) => true,
+            AxisMade::OutOfRange => false,
+        },
+        Field::Channel => match Channel::of(value) {
+            ChannelMade::Made(_) => true,
+            ChannelMade::OutOfRange => false,
+        },
+        Field::Node => true,
+        Field::Path => true,
+    }
+}
+
+fn fields_in_range(e: Entry) -> bool
+    ensures { λ r. ⌜ r ≡ fieldsInRange e ⌝ }
+{
+    let kind = e.kind;
+    let form = kind.form();
+    let x = form.x;
+    let y = form.y;
+    let z = form.z;
+    if !in_range(x, e.x) {
+        return false;
+    }
+    if !in_range(y, e.y) {
+        return false;
+    }
+    in_range(z, e.z)
+}
+
+// The sort of entry k.
+pub fn sort_at(p: &[u8], k: u8) -> Sort
+    requires { ⌜ 10 + 4 * k ≤ length (now p) ⌝ }
+    ensures { λ r. ⌜ r ≡ sortAt (now (p .entry)) k ⌝ }
+{
+    let e = Entry::at(p, k);
+    let kind = e.kind;
+    kind.sort()
+}
+
+// The sort of entry v if it stands before entry k.
+fn earlier_sort(p: &[u8], k: u8, v: u8) -> Sort
+    requires { ⌜ 10 + 4 * k ≤ length (now p) ⌝ }
+    ensures { λ r. ⌜ r ≡ earlierSort (now (p .entry)) k v ⌝ }
+{
+    if v < k {
+        return sort_at(p, v);
+    }
+    Sort::Neither
+}
+
+// Whether a field of entry k, if it is a reference, refers to an earlier entry of its sort.
+fn refers_back(p: &[u8], k: u8, field: Field, value: u8) -> bool
+    requires { ⌜ 10 + 4 * k ≤ length (now p) ⌝ }
+    ensures { λ r. ⌜ r ≡ refersBack (now (p .entry)) k field value ⌝ }
+{
+    match field {
+        Field::Node => earlier_sort(p, k, value).is_node(),
+        Field::Path => {
+            if value == END {
+                return true;
+            }
+            earlier_sort(p, k, value).is_path()
+        }
+        Field::Unused => true,
+        Field::Property => true,
+        Field::Name => true,
+        Field::Axis => true,
+        Field::Channel => true,
+    }
+}
+
+fn all_refer_back(p: &[u8], k: u8, e: Entry) -> bool
+    requires { ⌜ 10 + 4 * k ≤ length (now p) ⌝ }
+    ensures { λ r. ⌜ r ≡ allReferBack (now (p .entry)) k e ⌝ }
+{
+    let kind = e.kind;
+    let form = kind.form();
+    let x = form.x;
+    let y = form.y;
+    let z = form.z;
+    if !refers_back(p, k, x, e.x) {
+        return false;
+    }
+    if !refers_back(p, k, y, e.y) {
+        return false;
+    }
+    refers_back(p, k, z, e.z)
+}
+
+// Whether entry k is equal to an earlier one.
+fn repeats(p: &[u8], k: u8) -> bool
+    requires { ⌜ 10 + 4 * k ≤ length (now p) ⌝ }
+    ensures { λ r. ⌜ r ≡ repeatsAt (now (p .entry)) k ⌝ }
+{
+    let mut j = 0;
+    while j < k {
+        if same_entry(p, j, k) {
+            return true;
+        }
+        j += 1;
+    }
+    false
+}
+
+// Refusals 1 to 3.
+fn check_header(p: &[u8]) -> PatternCheck
+    ensures { λ r. ⌜ checkOf r ≡ headerCheck (now (p .entry)) ⌝ }
+{
+    if p.len() < 6 {
+        return PatternCheck::Refused(PatternRefusal::Mark);
+    }
+    if !wire::begins(p, b"PAT") {
+        return PatternCheck::Refused(PatternRefusal::Mark);
+    }
+    if wire::word(p, 3) != 1 {
+        return PatternCheck::Refused(PatternRefusal::Version);
+    }
+    let n = p[5];
+    if n == 0 {
+        return PatternCheck::Refused(PatternRefusal::Count);
+    }
+    if p.len() != 6 + 4 * (n as usize) {
+        return PatternCheck::Refused(PatternRefusal::Count);
+    }
+    PatternCheck::Passed
+}
+
+// Refusals 4 to 7 of entry k.
+fn check_entry(p: &[u8], k: u8) -> PatternCheck
+    requires { ⌜ 10 + 4 * k ≤ length (now p) ⌝ }
+    ensures { λ r. ⌜ checkOf r ≡ entryCheck (now (p .entry)) k ⌝ }
+{
+    let e = Entry::at(p, k);
+    let kind = e.kind;
+    if kind.sort().is_neither() {
+        return PatternCheck::Refused(PatternRefusal::Kind(k));
+    }
+    if !fields_in_range(e) {
+        return PatternCheck::Refused(PatternRefusal::Field(k));
+    }
+    if !all_refer_back(p, k, e) {
+        return PatternCheck::Refused(PatternRefusal::Reference(k));
+    }
+    if repeats(p, k) {
+        return PatternCheck::Refused(PatternRefusal::Repeat(k));
+    }
+    PatternCheck::Passed
+}
+
+// Refusals 4 to 7 of the entries below n, in their order.
+fn check_entries(p: &[u8], n: u8) -> PatternCheck
+    requires { ⌜ length (now p) ≡ 6 + 4 * n ⌝ }
+    ensures { λ r. ⌜ checkOf r ≡ eachBelow n (entryCheck (now (p .entry))) ⌝ }
+{
+    let mut k = 0;
+    while k < n {
+        if let PatternCheck::Refused(refusal) = check_entry(p, k) {
+            return PatternCheck::Refused(refusal);
+        }
+        k += 1;
+    }
+    PatternCheck::Passed
+}
+
+// Reads a pattern: any bytes of any length give the number of entries or the first refusal.
+pub fn read(p: &[u8]) -> PatternRead
+    ensures { λ r. ⌜ findingOf r ≡ readingOf (now (p .entry)) ⌝ }
+{
+    if let PatternCheck::Refused(refusal) = check_header(p) {
+        return PatternRead::Refused(refusal);
+    }
+    let n = p[5];
+    if let PatternCheck::Refused(refusal) = check_entries(p, n) {
+        return PatternRead::Refused(refusal);
+    }
+    if sort_at(p, n - 1).is_path() {
+        return PatternRead::Refused(PatternRefusal::RootPath(n - 1));
+    }
+    PatternRead::Read(n)
+}

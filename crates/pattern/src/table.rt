@@ -1,7 +1,7 @@
 // Document 01's table of entries: the kinds, which of them are nodes and which are paths, and what
 // the three fields of each hold.
 ghost use mathlib.Core.Path.{_≡_};
-ghost use Rattle.pattern.specs.Table.{kindOf, sortOf, formOf};
+ghost use Rattle.pattern.specs.Table.{kindOf, sortOf, formOf, isNode, isPath, isNeither};
 
 pub enum Kind {
     Property,
@@ -100,6 +100,38 @@ impl Kind {
             Kind::Test => row(Field::Node, Field::Path, Field::Unused),
             Kind::Fork => row(Field::Path, Field::Path, Field::Unused),
             Kind::Unknown => row(Field::Unused, Field::Unused, Field::Unused),
+        }
+    }
+}
+
+impl Sort {
+    pub fn is_node(self) -> bool
+        ensures { λ r. ⌜ r ≡ isNode self ⌝ }
+    {
+        match self {
+            Sort::Node => true,
+            Sort::Path => false,
+            Sort::Neither => false,
+        }
+    }
+
+    pub fn is_path(self) -> bool
+        ensures { λ r. ⌜ r ≡ isPath self ⌝ }
+    {
+        match self {
+            Sort::Node => false,
+            Sort::Path => true,
+            Sort::Neither => false,
+        }
+    }
+
+    pub fn is_neither(self) -> bool
+        ensures { λ r. ⌜ r ≡ isNeither self ⌝ }
+    {
+        match self {
+            Sort::Node => false,
+            Sort::Path => false,
+            Sort::Neither => true,
         }
     }
 }

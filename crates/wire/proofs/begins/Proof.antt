@@ -31,7 +31,7 @@ shared-slice-read-if2-2 : tie.Need-shared-slice-read-if2-2 Inv-loop μ-loop
 shared-slice-read-if2-2 c = search needs
 
 returns-2 : tie.Need-returns-2 Inv-loop μ-loop
-returns-2 c = 
+returns-2 c =
     let l = c .before .before .before .before in
     let a = l .before .before .args in
     sym (begins-differs (a .mark .now) (a .s .now) (l .loop .i) (search needs) (search needs) (c .if2 .taken))

@@ -42,7 +42,7 @@ returns-11 : tie.Need-returns-11
 returns-11 c = search needs
 
 returns-12 : tie.Need-returns-12
-returns-12 c = 
+returns-12 c =
     sym
     (kind-beyond (c .before .args .number)
     (c .match .rest .0 .0 .0 .0 .0 .0 .0 .0 .0 .0 .1)

@@ -1,0 +1,48 @@
+-- `pattern::read::fields_in_range` meets its contract: the fields are asked in their order, and the first that fails decides.
+-- Assumes nothing.
+use borrow.Author.Tests.{not-true, not-false}
+use mathlib.Core.Path.{sym, _∙_}
+use Rattle.pattern.specs.Reading.{fieldsInRange}
+use borrow.Author.Needs.{needs}
+use Rattle.pattern.proofs.read.fields_in_range.Statement.{statement}
+use Rattle.pattern.proofs.read.fields_in_range.Tie as tie
+use Rattle.pattern.proofs.read.fields_in_range.Reads as reads
+use Rattle.pattern.proofs.read.fields_in_range.Lts as lts
+use Rattle.pattern.proofs.read.in_range.Reads as in-range-reads
+use Rattle.pattern.proofs.table.Kind.form.Reads as form-reads
+
+form-requires : tie.Need-form-requires
+form-requires c κs = search needs
+
+in-range-requires : tie.Need-in-range-requires
+in-range-requires c κs = search needs
+
+returns : tie.Need-returns
+unfolding fieldsInRange
+returns c = rw (← c .before .before .form .ensures, sym (c .before .in-range .ensures) ∙ not-true _ (c .if1 .taken))
+
+in-range-requires-2 : tie.Need-in-range-requires-2
+in-range-requires-2 c κs = search needs
+
+returns-2 : tie.Need-returns-2
+unfolding fieldsInRange
+returns-2 c = rw (← c .before .before .before .before .form .ensures, sym (c .before .before .before .in-range .ensures) ∙ not-false _ (c .before .before .if1 .left), sym (c .before .in-range2 .ensures) ∙ not-true _ (c .if2 .taken))
+
+in-range-requires-3 : tie.Need-in-range-requires-3
+in-range-requires-3 c κs = search needs
+
+returns-3 : tie.Need-returns-3
+unfolding fieldsInRange
+returns-3 c = rw (← c .before .before .before .before .before .form .ensures, sym (c .before .before .before .before .in-range .ensures) ∙ not-false _ (c .before .before .before .if1 .left), sym (c .before .before .in-range2 .ensures) ∙ not-false _ (c .before .if2 .left)) (c .in-range3 .ensures)
+
+pub fields-in-range-spec : {M : Type 1} → statement M
+fields-in-range-spec =
+    tie.close
+    (tie.spec
+    form-requires
+    in-range-requires
+    returns
+    in-range-requires-2
+    returns-2
+    in-range-requires-3
+    returns-3)

@@ -1,0 +1,24 @@
+-- `pattern::read::sort_at` meets its contract: the sort is that of the entry's kind.
+-- Assumes nothing.
+use mathlib.Core.Path.{ap, _∙_}
+use Rattle.pattern.specs.declared.entry.Entry.{Entry}
+use Rattle.pattern.specs.Table.{sortOf}
+use borrow.Author.Needs.{needs}
+use Rattle.pattern.proofs.read.sort_at.Statement.{statement}
+use Rattle.pattern.proofs.read.sort_at.Tie as tie
+use Rattle.pattern.proofs.read.sort_at.Reads as reads
+use Rattle.pattern.proofs.read.sort_at.Lts as lts
+use Rattle.pattern.proofs.entry.Entry.at.Reads as at-reads
+use Rattle.pattern.proofs.table.Kind.sort.Reads as sort-reads
+
+at-requires : tie.Need-at-requires
+at-requires c κs = search needs
+
+sort-requires : tie.Need-sort-requires
+sort-requires c κs = search needs
+
+returns : tie.Need-returns
+returns c = c .sort .ensures ∙ ap (λ (e : Entry). sortOf (e .kind)) (c .before .at .ensures)
+
+pub sort-at-spec : {M : Type 1} → statement M
+sort-at-spec = tie.close (tie.spec at-requires sort-requires returns)

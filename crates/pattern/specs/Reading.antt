@@ -1,0 +1,161 @@
+-- Reading a pattern: 01's refusals 1 to 8, in its order, as an executable definition.
+-- Assumes nothing.
+use mathlib.Core.Path.{_≡_}
+use mathlib.Core.Bool.{Bool, true, false, not, _&&_, _||_}
+use mathlib.Core.List.{List, [], _∷_}
+use Prim.Native.Nat.{ℕ, _+_, _-_, _*_, _<_}
+use native.Mathlib.Omega.{arith}
+use borrow.Author.Tests.{eqb-true, eqb-false, not-false}
+use lib.ListN.{length, getD}
+use lib.Dec.{leb, ltb, eqb}
+use Rattle.wire.specs.Fields.{beginsWith, wordAt}
+use Rattle.pattern.specs.declared.table.Sort.{Sort}
+use Rattle.pattern.specs.declared.table.Field.{Field}
+use Rattle.pattern.specs.declared.table.Form.{Form}
+use Rattle.pattern.specs.declared.entry.Entry.{Entry}
+use Rattle.pattern.specs.declared.read.PatternRefusal.{PatternRefusal}
+use Rattle.pattern.specs.declared.read.PatternCheck.{PatternCheck}
+use Rattle.pattern.specs.declared.read.PatternRead.{PatternRead}
+use Rattle.pattern.specs.Types.{maxName, maxProperty, maxAxis, maxChannel}
+use Rattle.pattern.specs.Finding.{Finding, read, refused, Check, passes, refuses, refusesIf, _then_, unless, then-passes, refusesIf-passes}
+use Rattle.pattern.specs.Range.{someBelow, eachBelow, or-false-both}
+use Rattle.pattern.specs.Table.{endOfPath, sortOf, formOf, isNeither, isNode, isPath}
+use Rattle.pattern.specs.Entries.{entryAt, sameEntry}
+
+-- the mark `PAT`
+abbrev pub mark : List ℕ
+mark = 80 ∷ 65 ∷ 84 ∷ []
+
+-- "one byte n (1 to 255)"
+abbrev pub countOf : List ℕ → ℕ
+countOf bs = getD bs 5 0
+
+-- "1: under 6 bytes or wrong mark."
+abbrev pub markCheck : List ℕ → Check
+markCheck bs = refusesIf (ltb (length bs) 6 || not (beginsWith mark bs)) 1 0
+
+-- "2: version."
+abbrev pub versionCheck : List ℕ → Check
+versionCheck bs = refusesIf (not (eqb (wordAt bs 3) 1)) 2 0
+
+-- "3: n zero or length not 6 + 4n."
+abbrev pub countCheck : List ℕ → Check
+countCheck bs = refusesIf (eqb (countOf bs) 0 || not (eqb (length bs) (6 + 4 * countOf bs))) 3 0
+
+unfoldable pub headerCheck : List ℕ → Check
+headerCheck bs = markCheck bs then versionCheck bs then countCheck bs
+
+-- a field within the range of what it holds; an unused one is zero. A reference has no range of its own: it is check 6's
+abbrev pub inRange : Field → ℕ → Bool
+inRange Field.Unused v = eqb v 0
+inRange Field.Property v = leb v maxProperty
+inRange Field.Name v = leb v maxName
+inRange Field.Axis v = leb v maxAxis
+inRange Field.Channel v = leb v maxChannel
+inRange Field.Node v = true
+inRange Field.Path v = true
+
+unfoldable pub fieldsInRange : Entry → Bool
+fieldsInRange e =
+    inRange (formOf (e .kind) .x) (e .x) && inRange (formOf (e .kind) .y) (e .y) && inRange (formOf (e .kind) .z) (e .z)
+
+abbrev sortIf : Bool → Sort → Sort
+sortIf true s = s
+sortIf false s = Sort.Neither
+
+abbrev pub sortAt : List ℕ → ℕ → Sort
+sortAt bs k = sortOf (entryAt bs k .kind)
+
+-- the sort of an entry before k; there is none at or after k
+abbrev pub earlierSort : List ℕ → ℕ → ℕ → Sort
+earlierSort bs k v = sortIf (ltb v k) (sortAt bs v)
+
+-- a field of entry k, if it is a reference, is "an earlier entry of the wanted sort (path end excepted)"
+abbrev pub refersBack : List ℕ → ℕ → Field → ℕ → Bool
+refersBack bs k Field.Unused v = true
+refersBack bs k Field.Property v = true
+refersBack bs k Field.Name v = true
+refersBack bs k Field.Axis v = true
+refersBack bs k Field.Channel v = true
+refersBack bs k Field.Node v = isNode (earlierSort bs k v)
+refersBack bs k Field.Path v = eqb v endOfPath || isPath (earlierSort bs k v)
+
+unfoldable pub allReferBack : List ℕ → ℕ → Entry → Bool
+allReferBack bs k e =
+    refersBack bs k (formOf (e .kind) .x) (e .x) && refersBack bs k (formOf (e .kind) .y) (e .y)
+    && refersBack bs k (formOf (e .kind) .z) (e .z)
+
+-- "equal to an earlier entry"
+abbrev pub repeatsAt : List ℕ → ℕ → Bool
+repeatsAt bs k = someBelow k (λ j. sameEntry bs j k)
+
+-- "Then entry by entry, place the entry number: 4, kind;"
+abbrev pub kindCheck : List ℕ → ℕ → Check
+kindCheck bs k = refusesIf (isNeither (sortAt bs k)) 4 k
+
+-- "5, a field out of range or an unused one not zero;"
+abbrev pub fieldCheck : List ℕ → ℕ → Check
+fieldCheck bs k = refusesIf (not (fieldsInRange (entryAt bs k))) 5 k
+
+-- "6, a reference that isn't an earlier entry of the wanted sort (path end excepted);"
+abbrev pub referenceCheck : List ℕ → ℕ → Check
+referenceCheck bs k = refusesIf (not (allReferBack bs k (entryAt bs k))) 6 k
+
+-- "7, equal to an earlier entry."
+abbrev pub repeatCheck : List ℕ → ℕ → Check
+repeatCheck bs k = refusesIf (repeatsAt bs k) 7 k
+
+unfoldable pub entryCheck : List ℕ → ℕ → Check
+entryCheck bs k = kindCheck bs k then fieldCheck bs k then referenceCheck bs k then repeatCheck bs k
+
+-- "8, place n − 1: the root is a path."
+unfoldable pub rootCheck : List ℕ → Check
+rootCheck bs = refusesIf (isPath (sortAt bs (countOf bs - 1))) 8 (countOf bs - 1)
+
+-- refusals 1 to 8, which every judgement begins with
+unfoldable pub patternCheck : List ℕ → Check
+patternCheck bs = headerCheck bs then eachBelow (countOf bs) (entryCheck bs) then rootCheck bs
+
+-- "Reading a pattern gives n."
+unfoldable pub readingOf : List ℕ → Finding
+readingOf bs = unless (patternCheck bs) (read (countOf bs))
+
+-- 01's number and place of each refusal of reading
+abbrev pub numberOf : PatternRefusal → ℕ
+numberOf PatternRefusal.Mark = 1
+numberOf PatternRefusal.Version = 2
+numberOf PatternRefusal.Count = 3
+numberOf (PatternRefusal.Kind k) = 4
+numberOf (PatternRefusal.Field k) = 5
+numberOf (PatternRefusal.Reference k) = 6
+numberOf (PatternRefusal.Repeat k) = 7
+numberOf (PatternRefusal.RootPath k) = 8
+
+abbrev pub placeOf : PatternRefusal → ℕ
+placeOf PatternRefusal.Mark = 0
+placeOf PatternRefusal.Version = 0
+placeOf PatternRefusal.Count = 0
+placeOf (PatternRefusal.Kind k) = k
+placeOf (PatternRefusal.Field k) = k
+placeOf (PatternRefusal.Reference k) = k
+placeOf (PatternRefusal.Repeat k) = k
+placeOf (PatternRefusal.RootPath k) = k
+
+-- the outcome of a check of a pattern
+abbrev pub checkOf : PatternCheck → Check
+checkOf PatternCheck.Passed = passes
+checkOf (PatternCheck.Refused refusal) = refuses (numberOf refusal) (placeOf refusal)
+
+-- the finding of reading
+abbrev pub findingOf : PatternRead → Finding
+findingOf (PatternRead.Read n) = read n
+findingOf (PatternRead.Refused refusal) = refused (numberOf refusal) (placeOf refusal)
+
+-- a header that passes has a count that is not zero and the length that it says
+pub header-passes : (bs : List ℕ) → headerCheck bs ≡ passes → (0 < countOf bs) × (length bs ≡ 6 + 4 * countOf bs)
+unfolding headerCheck
+header-passes bs h =
+    let count = then-passes (versionCheck bs) (countCheck bs) (then-passes (markCheck bs) (versionCheck bs then countCheck bs) h .1) .1 in
+    let faults = or-false-both (eqb (countOf bs) 0) (not (eqb (length bs) (6 + 4 * countOf bs))) (refusesIf-passes _ 3 0 count) in
+    let n-not-zero = eqb-false (countOf bs) 0 (faults .0) in
+    (omega arith, eqb-true _ _ (not-false _ (faults .1)))
