@@ -8,3 +8,6 @@ pub mod Range
 pub mod Table
 pub mod Entries
 pub mod Reading
+pub mod References
+pub mod Valid
+pub mod Expression

@@ -59,7 +59,7 @@ unfoldable pub fieldsInRange : Entry → Bool
 fieldsInRange e =
     inRange (formOf (e .kind) .x) (e .x) && inRange (formOf (e .kind) .y) (e .y) && inRange (formOf (e .kind) .z) (e .z)
 
-abbrev sortIf : Bool → Sort → Sort
+abbrev pub sortIf : Bool → Sort → Sort
 sortIf true s = s
 sortIf false s = Sort.Neither
 
