@@ -11,3 +11,6 @@ pub mod Reading
 pub mod References
 pub mod Valid
 pub mod Expression
+pub mod Meaning
+pub mod Names
+pub mod Readings

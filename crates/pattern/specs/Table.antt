@@ -4,6 +4,7 @@ use mathlib.Core.Path.{_≡_, refl}
 use mathlib.Core.Bool.{Bool, true, false}
 use mathlib.Core.List.{List, [], _∷_}
 use Prim.Native.Nat.{ℕ, zero, suc}
+use native.Mathlib.Omega.{arith}
 use lib.ListN.{getD}
 use Rattle.pattern.specs.declared.table.Kind.{Kind}
 use Rattle.pattern.specs.declared.table.Sort.{Sort}
@@ -89,3 +90,13 @@ kind-beyond (suc (suc (suc (suc (suc (suc (suc (suc (suc zero))))))))) a b c d e
 kind-beyond (suc (suc (suc (suc (suc (suc (suc (suc (suc (suc zero)))))))))) a b c d e f g h i j k = absurd (j refl)
 kind-beyond (suc (suc (suc (suc (suc (suc (suc (suc (suc (suc (suc zero))))))))))) a b c d e f g h i j k = absurd (k refl)
 kind-beyond (suc (suc (suc (suc (suc (suc (suc (suc (suc (suc (suc (suc n)))))))))))) a b c d e f g h i j k = refl
+
+-- the sorts are three
+pub path-no-node : Sort.Path ≡ Sort.Node → ⊥
+path-no-node e = let z : _≡_ {A = ℕ} 0 1 = cc in omega arith
+
+pub neither-no-node : Sort.Neither ≡ Sort.Node → ⊥
+neither-no-node e = let z : _≡_ {A = ℕ} 0 1 = cc in omega arith
+
+pub neither-no-path : Sort.Neither ≡ Sort.Path → ⊥
+neither-no-path e = let z : _≡_ {A = ℕ} 0 1 = cc in omega arith

@@ -30,6 +30,8 @@ EarlierPath bs k v = (v ≡ endOfPath) ⊎ ((v < k) × (sortAt bs v ≡ Sort.Pat
 
 -- a pattern file of n entries that meets every check of 01
 pub record Valid (bs : List ℕ) (n : ℕ) : Type 0 where
+  -- n is the byte of the header
+  pub count-is : countOf bs ≡ n
   pub some-entry : 0 < n
   pub length-is : length bs ≡ 6 + 4 * n
   -- each entry is a node or a path
@@ -142,6 +144,7 @@ valid bs n h =
         let size = header-passes bs header in
         let entry : (k : ℕ) → k < countOf bs → Checked bs k = λ k l. checked bs k (each-at (entryCheck bs) (countOf bs) k each l) in
         record {
+          count-is = refl;
           some-entry = size .0;
           length-is = size .1;
           sorted = λ k l. entry k l .sorted;

@@ -1,0 +1,113 @@
+-- Which names a pattern uses, and that no other name bears on what its entries mean.
+-- Assumes nothing.
+use mathlib.Core.Path.{_≡_, refl, sym, subst}
+use mathlib.Core.Bool.{Bool, true, false}
+use mathlib.Core.Logic.{_⊎_, inl, inr}
+use mathlib.Core.List.{List}
+use Prim.Native.Nat.{ℕ, zero, suc, _<_, _≤_}
+use native.Mathlib.Nat.{not-suc-le-zero, lt-suc-self}
+use native.Mathlib.Omega.{arith}
+use lib.Dec.{eqb}
+use borrow.Author.Tests.{eq-eqb}
+use Rattle.pattern.specs.declared.table.Kind.{Kind}
+use Rattle.pattern.specs.declared.entry.Entry.{Entry}
+use Rattle.pattern.specs.Syntax.{NExp, PExp, truth}
+use Rattle.pattern.specs.Semantics.{Model, Naming, Leads, Holds}
+use Rattle.pattern.specs.Coincidence.{OfNames, OfNamesP, same-holds, same-leads}
+use Rattle.pattern.specs.Range.{someBelow, some-at}
+use Rattle.pattern.specs.Table.{endOfPath}
+use Rattle.pattern.specs.Entries.{entryAt}
+use Rattle.pattern.specs.Reading.{countOf}
+use Rattle.pattern.specs.References.{OfReferences, map-references}
+use Rattle.pattern.specs.Valid.{Valid, EarlierNode, EarlierPath}
+use Rattle.pattern.specs.Expression.{end, nodeOf, pathOf, nodeAt, pathAt, node-at, path-at, end-at}
+
+-- an entry of this kind with x for its first field has the name
+abbrev pub hasName : Kind → ℕ → ℕ → Bool
+hasName Kind.Property x i = false
+hasName Kind.Name x i = eqb x i
+hasName Kind.Not x i = false
+hasName Kind.Both x i = false
+hasName Kind.After x i = false
+hasName Kind.Same x i = false
+hasName Kind.Differ x i = false
+hasName Kind.Step x i = false
+hasName Kind.Jump x i = eqb x i
+hasName Kind.Test x i = false
+hasName Kind.Fork x i = false
+hasName Kind.Unknown x i = false
+
+-- entry k has the name
+abbrev pub entryUses : List ℕ → ℕ → ℕ → Bool
+entryUses bs i k = hasName (entryAt bs k .kind) (entryAt bs k .x) i
+
+-- "A name is used in the pattern if an entry of kind 2 or 9 has it, whether the root reaches that entry or not."
+unfoldable pub usesName : List ℕ → ℕ → Bool
+usesName bs i = someBelow (countOf bs) (entryUses bs i)
+
+module _ (Q : ℕ → Type 0) (N : ℕ → NExp) (P : ℕ → PExp) (x y z : ℕ) where
+  -- the names of an entry's expression are its own and those of its references
+  node-names : (κ : Kind) → ((i : ℕ) → hasName κ x i ≡ true → Q i)
+      → OfReferences (λ v. OfNames Q (N v)) (λ v. OfNamesP Q (P v)) (record { kind = κ; x = x; y = y; z = z }) → OfNames Q (nodeOf κ x y z N P)
+  node-names Kind.Property own r = tt
+  node-names Kind.Name own r = own x (eq-eqb x x refl)
+  node-names Kind.Not own r = r .0
+  node-names Kind.Both own r = (r .0, r .1)
+  node-names Kind.After own r = r .1
+  node-names Kind.Same own r = (r .1, r .2)
+  node-names Kind.Differ own r = (r .1, r .2)
+  node-names Kind.Step own r = (tt, tt)
+  node-names Kind.Jump own r = (tt, tt)
+  node-names Kind.Test own r = (tt, tt)
+  node-names Kind.Fork own r = (tt, tt)
+  node-names Kind.Unknown own r = (tt, tt)
+
+  path-names : (κ : Kind) → ((i : ℕ) → hasName κ x i ≡ true → Q i)
+      → OfReferences (λ v. OfNames Q (N v)) (λ v. OfNamesP Q (P v)) (record { kind = κ; x = x; y = y; z = z }) → OfNamesP Q (pathOf κ x y z N P)
+  path-names Kind.Property own r = (tt, tt)
+  path-names Kind.Name own r = (tt, tt)
+  path-names Kind.Not own r = (tt, tt)
+  path-names Kind.Both own r = (tt, tt)
+  path-names Kind.After own r = (tt, tt)
+  path-names Kind.Same own r = (tt, tt)
+  path-names Kind.Differ own r = (tt, tt)
+  path-names Kind.Step own r = (tt, r .1)
+  path-names Kind.Jump own r = (own x (eq-eqb x x refl), r .1)
+  path-names Kind.Test own r = (r .0, r .1)
+  path-names Kind.Fork own r = (r .0, r .1)
+  path-names Kind.Unknown own r = (tt, tt)
+
+module _ {bs : List ℕ} {n : ℕ} (ok : Valid bs n) (byte : n ≤ 255) (Q : ℕ → Type 0) (used : (i : ℕ) → usesName bs i ≡ true → Q i) where
+  own-names : (k : ℕ) → k < n → (i : ℕ) → entryUses bs i k ≡ true → Q i
+  unfolding usesName
+  own-names k l i h = used i (some-at (entryUses bs i) (countOf bs) k (rw (ok .count-is) l) h)
+
+  names-below : (d k : ℕ) → k < d → k < n → OfNames Q (nodeAt bs k) × OfNamesP Q (pathAt bs k)
+  names-below zero k h l = absurd (not-suc-le-zero h)
+  names-below (suc d) k h l =
+      let e = entryAt bs k in
+      let r = references k l (λ v g. names-below d v (omega arith) (omega arith)) in
+      (subst (OfNames Q) (sym (node-at ok k l)) (node-names Q (nodeAt bs) (pathAt bs) (e .x) (e .y) (e .z) (e .kind) (own-names k l) r),
+      subst (OfNamesP Q) (sym (path-at ok k l (omega arith)))
+      (path-names Q (nodeAt bs) (pathAt bs) (e .x) (e .y) (e .z) (e .kind) (own-names k l) r))
+    where
+      references : (k : ℕ) → k < n → ((v : ℕ) → v < k → OfNames Q (nodeAt bs v) × OfNamesP Q (pathAt bs v))
+          → OfReferences (λ v. OfNames Q (nodeAt bs v)) (λ v. OfNamesP Q (pathAt bs v)) (entryAt bs k)
+      references k l below = map-references (λ v g. below v (g .0) .0) path (entryAt bs k) (ok .refers k l)
+        where
+          path : (v : ℕ) → EarlierPath bs k v → OfNamesP Q (pathAt bs v)
+          path v (inl e) = subst (λ (i : ℕ). OfNamesP Q (pathAt bs i)) (sym e) (subst (OfNamesP Q) (sym (end-at bs)) (tt, tt))
+          path v (inr g) = below v (g .0) .1
+
+  -- what holds of every name that the pattern uses holds of every name in the expression of an entry
+  pub names-at : (k : ℕ) → k < n → OfNames Q (nodeAt bs k) × OfNamesP Q (pathAt bs k)
+  names-at k l = names-below (suc k) k (lt-suc-self k) l
+
+-- coincidence for a pattern: namings that agree on the names that it uses give its entries the same meaning
+module _ {bs : List ℕ} {n : ℕ} (ok : Valid bs n) (byte : n ≤ 255) (M : Model) (g h : Naming M)
+    (agree : (i : ℕ) → usesName bs i ≡ true → g i ≡ h i) where
+  pub node-coincides : (k : ℕ) → k < n → (u : M .Node) → Holds M g (nodeAt bs k) u ≡ Holds M h (nodeAt bs k) u
+  node-coincides k l u = same-holds M g h (nodeAt bs k) (names-at ok byte (λ i. g i ≡ h i) agree k l .0) u
+
+  pub path-coincides : (k : ℕ) → k < n → (u v : M .Node) → Leads M g (pathAt bs k) u v ≡ Leads M h (pathAt bs k) u v
+  path-coincides k l u v = same-leads M g h (pathAt bs k) (names-at ok byte (λ i. g i ≡ h i) agree k l .1) u v
