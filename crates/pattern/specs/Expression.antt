@@ -119,7 +119,7 @@ module _ {bs : List ℕ} {n : ℕ} (ok : Valid bs n) where
   -- what agrees on the entries before k agrees on the references of entry k
   agree : (N N′ : ℕ → NExp) (P P′ : ℕ → PExp) (k : ℕ) → k < n → ((v : ℕ) → v < k → (N v ≡ N′ v) × (P v ≡ P′ v))
       → OfReferences (λ v. N v ≡ N′ v) (Agree P P′) (entryAt bs k)
-  agree N N′ P P′ k l same = map-references node path (entryAt bs k) (ok .refers k l)
+  agree N N′ P P′ k l same = map-references node path (entryAt bs k) (ok .entered k l .refers)
     where
       node : (v : ℕ) → EarlierNode bs k v → N v ≡ N′ v
       node v h = same v (h .0) .0
@@ -153,11 +153,12 @@ module _ {bs : List ℕ} {n : ℕ} (ok : Valid bs n) where
   unfolding nodeAt nodeWithin pathWithin
   node-at k l = let e = entryAt bs k in node-same _ _ _ _ (e .x) (e .y) (e .z) (e .kind) (agree-at k l)
 
-  pub path-at : (k : ℕ) → k < n → (k ≡ endOfPath → ⊥)
+  pub path-at : (k : ℕ) → k < n
       → pathAt bs k ≡ pathOf (entryAt bs k .kind) (entryAt bs k .x) (entryAt bs k .y) (entryAt bs k .z) (nodeAt bs) (pathAt bs)
   unfolding pathAt nodeWithin pathWithin
-  path-at k l no-end =
+  path-at k l =
       let e = entryAt bs k in
+      let no-end : k ≡ endOfPath → ⊥ = λ h. omega (arith, ok .header .one-byte, ok .count-is) in
       ap (λ (t : Bool). orEnd t (pathWithin bs (suc k) k)) (ne-eqb k endOfPath no-end)
       ∙ path-same _ _ _ _ (e .x) (e .y) (e .z) (e .kind) (agree-at k l)
 

@@ -3,6 +3,7 @@ pub mod Syntax
 pub mod Semantics
 pub mod Finite
 pub mod Coincidence
+pub mod Tests
 pub mod Finding
 pub mod Range
 pub mod Table

@@ -7,12 +7,11 @@ use mathlib.Core.List.{List}
 use Prim.Native.Nat.{ℕ, zero, suc, _<_, _≤_}
 use native.Mathlib.Nat.{not-suc-le-zero, lt-suc-self}
 use native.Mathlib.Omega.{arith}
-use Rattle.pattern.specs.declared.types.Comparison.{Comparison}
 use Rattle.pattern.specs.declared.table.Kind.{Kind}
 use Rattle.pattern.specs.declared.table.Sort.{Sort}
 use Rattle.pattern.specs.declared.entry.Entry.{Entry}
 use Rattle.pattern.specs.Syntax.{NExp, PExp, truth}
-use Rattle.pattern.specs.Semantics.{Model, Naming, Compared, Leads, Holds}
+use Rattle.pattern.specs.Semantics.{Model, Naming, Leads, Holds}
 use Rattle.pattern.specs.Table.{endOfPath, sortOf, path-no-node, neither-no-node, neither-no-path}
 use Rattle.pattern.specs.Entries.{entryAt}
 use Rattle.pattern.specs.Reading.{sortAt}
@@ -30,8 +29,8 @@ module _ (M : Model) (nom : Naming M) where
   -- "After holds where some successor has φ."
   NodeMeans H L Kind.After x y z u = (v : M .Node) × (M .edge x u v × H y v)
   -- "Same (differ) holds at u if some end of α and some end of β from u have equal (unequal) values on the channel."
-  NodeMeans H L Kind.Same x y z u = (v : M .Node) × ((w : M .Node) × (L y u v × L z u w × Compared M Comparison.Same x v w))
-  NodeMeans H L Kind.Differ x y z u = (v : M .Node) × ((w : M .Node) × (L y u v × L z u w × Compared M Comparison.Differ x v w))
+  NodeMeans H L Kind.Same x y z u = (v : M .Node) × ((w : M .Node) × (L y u v × L z u w × M .alike x v w))
+  NodeMeans H L Kind.Differ x y z u = (v : M .Node) × ((w : M .Node) × (L y u v × L z u w × (M .alike x v w → ⊥)))
   NodeMeans H L Kind.Step x y z u = ⊥
   NodeMeans H L Kind.Jump x y z u = ⊥
   NodeMeans H L Kind.Test x y z u = ⊥
@@ -120,9 +119,9 @@ module _ (M : Model) (nom : Naming M) where
   abbrev pub LeadsAt : List ℕ → ℕ → M .Node → M .Node → Type 0
   LeadsAt bs k u v = Leads M nom (pathAt bs k) u v
 
-  -- 01's reading of the entries of a pattern that was read is 000's satisfaction of their expressions (n is one byte)
-  pub published : {bs : List ℕ} {n : ℕ} → Valid bs n → n ≤ 255 → Meaning bs n (HoldsAt bs) (LeadsAt bs)
-  published {bs} {n} ok byte =
+  -- 01's reading of the entries of a pattern that was read is 000's satisfaction of their expressions
+  pub published : {bs : List ℕ} {n : ℕ} → Valid bs n → Meaning bs n (HoldsAt bs) (LeadsAt bs)
+  published {bs} {n} ok =
       record {
         ends = λ u v. subst (λ (α : PExp). Leads M nom α u v ↔ (u ≡ v)) (sym (end-at bs)) (end-leads u v);
         nodes = λ k l s u.
@@ -133,7 +132,7 @@ module _ (M : Model) (nom : Naming M) where
         paths = λ k l s u v.
           let e = entryAt bs k in
           subst (λ (α : PExp). Leads M nom α u v ↔ PathMeans (HoldsAt bs) (LeadsAt bs) (e .kind) (e .x) (e .y) (e .z) u v)
-          (sym (path-at ok k l (omega arith)))
+          (sym (path-at ok k l))
           (path-agrees (nodeAt bs) (pathAt bs) (e .x) (e .y) (e .z) (e .kind) s u v);
       }
 
@@ -184,7 +183,7 @@ module _ (M : Model) (nom : Naming M) where
       (m : Meaning bs n H L) (m′ : Meaning bs n H′ L′) where
     same-references : (k : ℕ) → k < n → ((v : ℕ) → v < k → SameEntry bs H H′ L L′ v)
         → OfReferences (SameNode H H′) (SamePath L L′) (entryAt bs k)
-    same-references k l same = map-references (λ v g. same v (g .0) .0 (g .1)) path (entryAt bs k) (ok .refers k l)
+    same-references k l same = map-references (λ v g. same v (g .0) .0 (g .1)) path (entryAt bs k) (ok .entered k l .refers)
       where
         path : (v : ℕ) → EarlierPath bs k v → SamePath L L′ v
         path v (inl e) u w = subst (λ (i : ℕ). L i u w ↔ L′ i u w) (sym e) (Iff·trans (m .ends u w) (Iff·symm (m′ .ends u w)))

@@ -77,7 +77,7 @@ module _ (Q : ℕ → Type 0) (N : ℕ → NExp) (P : ℕ → PExp) (x y z : ℕ
   path-names Kind.Fork own r = (r .0, r .1)
   path-names Kind.Unknown own r = (tt, tt)
 
-module _ {bs : List ℕ} {n : ℕ} (ok : Valid bs n) (byte : n ≤ 255) (Q : ℕ → Type 0) (used : (i : ℕ) → usesName bs i ≡ true → Q i) where
+module _ {bs : List ℕ} {n : ℕ} (ok : Valid bs n) (Q : ℕ → Type 0) (used : (i : ℕ) → usesName bs i ≡ true → Q i) where
   own-names : (k : ℕ) → k < n → (i : ℕ) → entryUses bs i k ≡ true → Q i
   unfolding usesName
   own-names k l i h = used i (some-at (entryUses bs i) (countOf bs) k (rw (ok .count-is) l) h)
@@ -88,12 +88,12 @@ module _ {bs : List ℕ} {n : ℕ} (ok : Valid bs n) (byte : n ≤ 255) (Q : ℕ
       let e = entryAt bs k in
       let r = references k l (λ v g. names-below d v (omega arith) (omega arith)) in
       (subst (OfNames Q) (sym (node-at ok k l)) (node-names Q (nodeAt bs) (pathAt bs) (e .x) (e .y) (e .z) (e .kind) (own-names k l) r),
-      subst (OfNamesP Q) (sym (path-at ok k l (omega arith)))
+      subst (OfNamesP Q) (sym (path-at ok k l))
       (path-names Q (nodeAt bs) (pathAt bs) (e .x) (e .y) (e .z) (e .kind) (own-names k l) r))
     where
       references : (k : ℕ) → k < n → ((v : ℕ) → v < k → OfNames Q (nodeAt bs v) × OfNamesP Q (pathAt bs v))
           → OfReferences (λ v. OfNames Q (nodeAt bs v)) (λ v. OfNamesP Q (pathAt bs v)) (entryAt bs k)
-      references k l below = map-references (λ v g. below v (g .0) .0) path (entryAt bs k) (ok .refers k l)
+      references k l below = map-references (λ v g. below v (g .0) .0) path (entryAt bs k) (ok .entered k l .refers)
         where
           path : (v : ℕ) → EarlierPath bs k v → OfNamesP Q (pathAt bs v)
           path v (inl e) = subst (λ (i : ℕ). OfNamesP Q (pathAt bs i)) (sym e) (subst (OfNamesP Q) (sym (end-at bs)) (tt, tt))
@@ -104,10 +104,10 @@ module _ {bs : List ℕ} {n : ℕ} (ok : Valid bs n) (byte : n ≤ 255) (Q : ℕ
   names-at k l = names-below (suc k) k (lt-suc-self k) l
 
 -- coincidence for a pattern: namings that agree on the names that it uses give its entries the same meaning
-module _ {bs : List ℕ} {n : ℕ} (ok : Valid bs n) (byte : n ≤ 255) (M : Model) (g h : Naming M)
+module _ {bs : List ℕ} {n : ℕ} (ok : Valid bs n) (M : Model) (g h : Naming M)
     (agree : (i : ℕ) → usesName bs i ≡ true → g i ≡ h i) where
   pub node-coincides : (k : ℕ) → k < n → (u : M .Node) → Holds M g (nodeAt bs k) u ≡ Holds M h (nodeAt bs k) u
-  node-coincides k l u = same-holds M g h (nodeAt bs k) (names-at ok byte (λ i. g i ≡ h i) agree k l .0) u
+  node-coincides k l u = same-holds M g h (nodeAt bs k) (names-at ok (λ i. g i ≡ h i) agree k l .0) u
 
   pub path-coincides : (k : ℕ) → k < n → (u v : M .Node) → Leads M g (pathAt bs k) u v ≡ Leads M h (pathAt bs k) u v
-  path-coincides k l u v = same-leads M g h (pathAt bs k) (names-at ok byte (λ i. g i ≡ h i) agree k l .1) u v
+  path-coincides k l u v = same-leads M g h (pathAt bs k) (names-at ok (λ i. g i ≡ h i) agree k l .1) u v

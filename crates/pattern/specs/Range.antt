@@ -1,11 +1,12 @@
 -- The numbers below a bound: whether some number passes a test, and a check of each in turn.
 -- Assumes nothing.
-use mathlib.Core.Path.{_≡_, refl, sym, subst}
+use mathlib.Core.Path.{_≡_, refl}
 use mathlib.Core.Bool.{Bool, true, false, _||_, or-true}
 use mathlib.Core.Logic.{_⊎_, inl, inr}
-use Prim.Native.Nat.{ℕ, zero, suc, _+_, _<_}
-use native.Mathlib.Nat.{not-suc-le-zero, le-of-suc-le-suc, eq-or-lt-of-le}
-use native.Mathlib.Numerals.{add-one}
+use Prim.Native.Nat.{ℕ, zero, suc, _-_, _≤_, _<_}
+use native.Mathlib.Omega.{arith}
+use native.Mathlib.Nat.{not-suc-le-zero, le-of-suc-le-suc, eq-or-lt-of-le, lt-trans, lt-suc-self}
+use Rattle.pattern.specs.Tests.{or-false}
 use Rattle.pattern.specs.Finding.{Check, passes, refuses, _then_, then-passes}
 
 -- some number below n passes the test
@@ -18,18 +19,11 @@ unfoldable pub eachBelow : ℕ → (ℕ → Check) → Check
 eachBelow zero check = passes
 eachBelow (suc n) check = eachBelow n check then check n
 
-pub or-false-both : (a b : Bool) → a || b ≡ false → (a ≡ false) × (b ≡ false)
-or-false-both true b h = (h, cc)
-or-false-both false b h = (refl, h)
-
 module _ (test : ℕ → Bool) where
-  pub none-below-zero : someBelow 0 test ≡ false
+  pub none-below : (n : ℕ) → ((k : ℕ) → k < n → test k ≡ false) → someBelow n test ≡ false
   unfolding someBelow
-  none-below-zero = refl
-
-  pub none-below-more : (n : ℕ) → someBelow n test ≡ false → test n ≡ false → someBelow (n + 1) test ≡ false
-  unfolding someBelow
-  none-below-more n h e = rw (add-one, h, e)
+  none-below zero none = refl
+  none-below (suc n) none = rw (none-below n (λ k h. none k (lt-trans h (lt-suc-self n))), none n (lt-suc-self n))
 
   pub some-at : (n k : ℕ) → k < n → test k ≡ true → someBelow n test ≡ true
   unfolding someBelow
@@ -43,24 +37,21 @@ module _ (test : ℕ → Bool) where
   pub none-at : (n k : ℕ) → someBelow n test ≡ false → k < n → test k ≡ false
   unfolding someBelow
   none-at zero k e h = absurd (not-suc-le-zero h)
-  none-at (suc n) k e h = go (eq-or-lt-of-le (le-of-suc-le-suc h)) (or-false-both _ _ e)
-      (λ l. none-at n k (or-false-both _ _ e .0) l)
+  none-at (suc n) k e h = go (eq-or-lt-of-le (le-of-suc-le-suc h)) (or-false _ _ e)
+      (λ l. none-at n k (or-false _ _ e .0) l)
     where
       go : (k ≡ n) ⊎ (k < n) → (someBelow n test ≡ false) × (test n ≡ false) → (k < n → test k ≡ false) → test k ≡ false
       go (inl p) b f = rw p (b .1)
       go (inr l) b f = f l
 
 module _ (check : ℕ → Check) where
-  pub each-below-zero : eachBelow 0 check ≡ passes
+  pub each-below : (n : ℕ) → ((k : ℕ) → k < n → check k ≡ passes) → eachBelow n check ≡ passes
   unfolding eachBelow
-  each-below-zero = refl
-
-  pub each-below-more : (n : ℕ) → eachBelow n check ≡ passes → check n ≡ passes → eachBelow (n + 1) check ≡ passes
-  unfolding eachBelow
-  each-below-more n h e = rw (add-one, h, e)
+  each-below zero each = refl
+  each-below (suc n) each = rw (each-below n (λ k h. each k (lt-trans h (lt-suc-self n))), each n (lt-suc-self n))
 
   -- the first refusal decides
-  pub each-first : (n k number place : ℕ) → k < n → eachBelow k check ≡ passes → check k ≡ refuses number place
+  pub each-first : (n k number place : ℕ) → k < n → ((j : ℕ) → j < k → check j ≡ passes) → check k ≡ refuses number place
       → eachBelow n check ≡ refuses number place
   unfolding eachBelow
   each-first zero k number place h e r = absurd (not-suc-le-zero h)
@@ -68,7 +59,7 @@ module _ (check : ℕ → Check) where
     where
       go : (k ≡ n) ⊎ (k < n) → (k < n → eachBelow n check ≡ refuses number place)
           → eachBelow n check then check n ≡ refuses number place
-      go (inl p) f = rw (← p, e, r)
+      go (inl p) f = rw (← p, each-below k e, r)
       go (inr l) f = rw (f l)
 
   pub each-at : (n k : ℕ) → eachBelow n check ≡ passes → k < n → check k ≡ passes
@@ -81,3 +72,12 @@ module _ (check : ℕ → Check) where
           → check k ≡ passes
       go (inl p) b f = rw p (b .1)
       go (inr l) b f = f l
+
+-- what holds from j up to k, and just below j, holds from there up to k
+pub above-less : (P : ℕ → Type 0) (j k : ℕ) → 0 < j → ((i : ℕ) → j ≤ i → i < k → P i) → P (j - 1)
+    → (i : ℕ) → j - 1 ≤ i → i < k → P i
+above-less P j k pos above here i h l = go (eq-or-lt-of-le h)
+  where
+    go : (j - 1 ≡ i) ⊎ (j - 1 < i) → P i
+    go (inl e) = rw e at here
+    go (inr g) = above i (omega arith) l

@@ -3,9 +3,9 @@
 use mathlib.Core.Path.{_≡_}
 use mathlib.Core.Bool.{Bool, true, false, not, _&&_, _||_}
 use mathlib.Core.List.{List, [], _∷_}
-use Prim.Native.Nat.{ℕ, _+_, _-_, _*_, _<_}
+use Prim.Native.Nat.{ℕ, _+_, _-_, _*_, _≤_, _<_}
 use native.Mathlib.Omega.{arith}
-use borrow.Author.Tests.{eqb-true, eqb-false, not-false}
+use borrow.Author.Tests.{eqb-true, eqb-false, ltb-false, not-false, eq-eqb, ne-eqb, le-ltb}
 use lib.ListN.{length, getD}
 use lib.Dec.{leb, ltb, eqb}
 use Rattle.wire.specs.Fields.{beginsWith, wordAt}
@@ -16,9 +16,10 @@ use Rattle.pattern.specs.declared.entry.Entry.{Entry}
 use Rattle.pattern.specs.declared.read.PatternRefusal.{PatternRefusal}
 use Rattle.pattern.specs.declared.read.PatternCheck.{PatternCheck}
 use Rattle.pattern.specs.declared.read.PatternRead.{PatternRead}
+use Rattle.pattern.specs.Tests.{or-false}
 use Rattle.pattern.specs.Types.{maxName, maxProperty, maxAxis, maxChannel}
 use Rattle.pattern.specs.Finding.{Finding, read, refused, Check, passes, refuses, refusesIf, _then_, unless, then-passes, refusesIf-passes}
-use Rattle.pattern.specs.Range.{someBelow, eachBelow, or-false-both}
+use Rattle.pattern.specs.Range.{someBelow, eachBelow}
 use Rattle.pattern.specs.Table.{endOfPath, sortOf, formOf, isNeither, isNode, isPath}
 use Rattle.pattern.specs.Entries.{entryAt, sameEntry}
 
@@ -38,9 +39,9 @@ markCheck bs = refusesIf (ltb (length bs) 6 || not (beginsWith mark bs)) 1 0
 abbrev pub versionCheck : List ℕ → Check
 versionCheck bs = refusesIf (not (eqb (wordAt bs 3) 1)) 2 0
 
--- "3: n zero or length not 6 + 4n."
+-- "3: n zero or length not 6 + 4n." n is one byte, which a list of numbers does not say by itself
 abbrev pub countCheck : List ℕ → Check
-countCheck bs = refusesIf (eqb (countOf bs) 0 || not (eqb (length bs) (6 + 4 * countOf bs))) 3 0
+countCheck bs = refusesIf (eqb (countOf bs) 0 || (ltb 255 (countOf bs) || not (eqb (length bs) (6 + 4 * countOf bs)))) 3 0
 
 unfoldable pub headerCheck : List ℕ → Check
 headerCheck bs = markCheck bs then versionCheck bs then countCheck bs
@@ -151,11 +152,36 @@ abbrev pub findingOf : PatternRead → Finding
 findingOf (PatternRead.Read n) = read n
 findingOf (PatternRead.Refused refusal) = refused (numberOf refusal) (placeOf refusal)
 
--- a header that passes has a count that is not zero and the length that it says
-pub header-passes : (bs : List ℕ) → headerCheck bs ≡ passes → (0 < countOf bs) × (length bs ≡ 6 + 4 * countOf bs)
+-- a header that passes has the mark, version 1, a count from 1 to 255 and the length that it says
+pub record Header (bs : List ℕ) : Type 0 where
+  pub marked : beginsWith mark bs ≡ true
+  pub version-one : wordAt bs 3 ≡ 1
+  pub some-entry : 0 < countOf bs
+  pub one-byte : countOf bs ≤ 255
+  pub length-is : length bs ≡ 6 + 4 * countOf bs
+
+pub header-passes : (bs : List ℕ) → headerCheck bs ≡ passes → Header bs
 unfolding headerCheck
 header-passes bs h =
-    let count = then-passes (versionCheck bs) (countCheck bs) (then-passes (markCheck bs) (versionCheck bs then countCheck bs) h .1) .1 in
-    let faults = or-false-both (eqb (countOf bs) 0) (not (eqb (length bs) (6 + 4 * countOf bs))) (refusesIf-passes _ 3 0 count) in
-    let n-not-zero = eqb-false (countOf bs) 0 (faults .0) in
-    (omega arith, eqb-true _ _ (not-false _ (faults .1)))
+    let a = then-passes (markCheck bs) (versionCheck bs then countCheck bs) h in
+    let b = then-passes (versionCheck bs) (countCheck bs) (a .1) in
+    let marks = or-false (ltb (length bs) 6) (not (beginsWith mark bs)) (refusesIf-passes _ 1 0 (a .0)) in
+    let n = countOf bs in
+    let long = not (eqb (length bs) (6 + 4 * n)) in
+    let counts = or-false (eqb n 0) (ltb 255 n || long) (refusesIf-passes _ 3 0 (b .1)) in
+    let sizes = or-false (ltb 255 n) long (counts .1) in
+    record {
+      marked = not-false _ (marks .1);
+      version-one = eqb-true _ _ (not-false _ (refusesIf-passes _ 2 0 (b .0)));
+      some-entry = let not-zero = eqb-false n 0 (counts .0) in omega arith;
+      one-byte = ltb-false 255 n (sizes .0);
+      length-is = eqb-true _ _ (not-false _ (sizes .1));
+    }
+
+pub header-accepted : (bs : List ℕ) → Header bs → headerCheck bs ≡ passes
+unfolding headerCheck
+header-accepted bs h =
+    let long : 6 ≤ length bs = omega (arith, h .length-is) in
+    rw
+    (le-ltb (length bs) 6 long, h .marked, eq-eqb _ _ (h .version-one), ne-eqb (countOf bs) 0 (λ e. omega (arith, h .some-entry)),
+    le-ltb 255 (countOf bs) (h .one-byte), eq-eqb _ _ (h .length-is))

@@ -1,24 +1,40 @@
--- What a pattern that was read gives: the laws that later work rests on.
+-- A valid pattern file, put declaratively: it is what reading accepts, and what later work knows of a pattern that was read.
 -- Assumes nothing.
-use mathlib.Core.Path.{_≡_, refl, sym, _∙_, ap}
-use mathlib.Core.Bool.{Bool, true, false, not, _&&_, _||_}
-use mathlib.Core.Logic.{_⊎_, inl, inr}
+use mathlib.Core.Path.{_≡_, refl, sym, _∙_, ap, subst}
+use mathlib.Core.Bool.{Bool, true, false, not, _&&_, _||_, or-true as Bool·or-true}
+use mathlib.Core.Logic.{_⊎_, inl, inr, _↔_}
 use mathlib.Core.List.{List}
-use Prim.Native.Nat.{ℕ, _+_, _-_, _*_, _<_}
+use Prim.Native.Nat.{ℕ, _+_, _-_, _*_, _≤_, _<_}
 use native.Mathlib.Omega.{arith}
 use lib.ListN.{length}
-use lib.Dec.{ltb, eqb}
-use borrow.Author.Tests.{ltb-true, eqb-true, not-false}
+use lib.Dec.{ltb, leb, eqb}
+use borrow.Author.Tests.{ltb-true, leb-true, eqb-true, not-false, lt-ltb, le-leb, eq-eqb}
+use Rattle.pattern.specs.declared.table.Kind.{Kind}
 use Rattle.pattern.specs.declared.table.Sort.{Sort}
 use Rattle.pattern.specs.declared.table.Field.{Field}
 use Rattle.pattern.specs.declared.table.Form.{Form}
 use Rattle.pattern.specs.declared.entry.Entry.{Entry}
+use Rattle.pattern.specs.Tests.{or-true, and-true}
+use Rattle.pattern.specs.Types.{maxName, maxProperty, maxAxis, maxChannel}
 use Rattle.pattern.specs.Finding.{Finding, read, Check, passes, refuses, refusesIf, _then_, unless, then-passes, refusesIf-passes}
-use Rattle.pattern.specs.Range.{eachBelow, each-at, none-at}
+use Rattle.pattern.specs.Range.{eachBelow, each-at, each-below, none-at, none-below}
 use Rattle.pattern.specs.Table.{endOfPath, formOf, isNode, isPath, isNeither}
 use Rattle.pattern.specs.Entries.{entryAt, sameEntry}
-use Rattle.pattern.specs.Reading.{countOf, fieldsInRange, sortIf, sortAt, earlierSort, refersBack, allReferBack, repeatsAt, headerCheck, kindCheck, fieldCheck, referenceCheck, repeatCheck, entryCheck, rootCheck, patternCheck, readingOf, header-passes}
+use Rattle.pattern.specs.Reading.{countOf, inRange, fieldsInRange, sortIf, sortAt, earlierSort, refersBack, allReferBack, repeatsAt, headerCheck, kindCheck, fieldCheck, referenceCheck, repeatCheck, entryCheck, rootCheck, patternCheck, readingOf, Header, header-passes, header-accepted}
 use Rattle.pattern.specs.References.{OfField, OfReferences}
+
+-- a field's value is in the range of what the field holds
+abbrev pub Within : Field → ℕ → Type 0
+Within Field.Unused v = v ≡ 0
+Within Field.Property v = v ≤ maxProperty
+Within Field.Name v = v ≤ maxName
+Within Field.Axis v = v ≤ maxAxis
+Within Field.Channel v = v ≤ maxChannel
+Within Field.Node v = Unit {0}
+Within Field.Path v = Unit {0}
+
+abbrev pub WithinAll : Entry → Type 0
+WithinAll e = Within (formOf (e .kind) .x) (e .x) × Within (formOf (e .kind) .y) (e .y) × Within (formOf (e .kind) .z) (e .z)
 
 -- entry v stands before entry k and is a node
 abbrev pub EarlierNode : List ℕ → ℕ → ℕ → Type 0
@@ -28,107 +44,129 @@ EarlierNode bs k v = (v < k) × (sortAt bs v ≡ Sort.Node)
 abbrev pub EarlierPath : List ℕ → ℕ → ℕ → Type 0
 EarlierPath bs k v = (v ≡ endOfPath) ⊎ ((v < k) × (sortAt bs v ≡ Sort.Path))
 
--- a pattern file of n entries that meets every check of 01
+-- an entry that meets the checks 4 to 7
+pub record Entered (bs : List ℕ) (k : ℕ) : Type 0 where
+  pub sorted : (sortAt bs k ≡ Sort.Node) ⊎ (sortAt bs k ≡ Sort.Path)
+  pub within : WithinAll (entryAt bs k)
+  pub refers : OfReferences (EarlierNode bs k) (EarlierPath bs k) (entryAt bs k)
+  pub different : (j : ℕ) → j < k → sameEntry bs j k ≡ false
+
+-- a file of n entries that meets every check
 pub record Valid (bs : List ℕ) (n : ℕ) : Type 0 where
-  -- n is the byte of the header
+  pub header : Header bs
   pub count-is : countOf bs ≡ n
-  pub some-entry : 0 < n
-  pub length-is : length bs ≡ 6 + 4 * n
-  -- each entry is a node or a path
-  pub sorted : (k : ℕ) → k < n → (sortAt bs k ≡ Sort.Node) ⊎ (sortAt bs k ≡ Sort.Path)
-  -- its fields are in range, and the unused ones zero
-  pub in-range : (k : ℕ) → k < n → fieldsInRange (entryAt bs k) ≡ true
-  -- its references are earlier entries of the wanted sort
-  pub refers : (k : ℕ) → k < n → OfReferences (EarlierNode bs k) (EarlierPath bs k) (entryAt bs k)
-  -- no two entries are equal
-  pub different : (j k : ℕ) → j < k → k < n → sameEntry bs j k ≡ false
+  pub entered : (k : ℕ) → k < n → Entered bs k
   pub root-node : sortAt bs (n - 1) ≡ Sort.Node
 
-and-both : (a b : Bool) → a && b ≡ true → (a ≡ true) × (b ≡ true)
-and-both true b h = (refl, h)
-and-both false b h = (h, cc)
+-- ---- each test of reading, and what it says
+sort-known : (s : Sort) → isNeither s ≡ false → (s ≡ Sort.Node) ⊎ (s ≡ Sort.Path)
+sort-known Sort.Node h = inl refl
+sort-known Sort.Path h = inr refl
+sort-known Sort.Neither h = inl cc
 
-or-either : (a b : Bool) → a || b ≡ true → (a ≡ true) ⊎ (b ≡ true)
-or-either true b h = inl refl
-or-either false b h = inr h
-
-node-or-path : (s : Sort) → isNeither s ≡ false → (s ≡ Sort.Node) ⊎ (s ≡ Sort.Path)
-node-or-path Sort.Node h = inl refl
-node-or-path Sort.Path h = inr refl
-node-or-path Sort.Neither h = inl cc
+known-sort : (s : Sort) → (s ≡ Sort.Node) ⊎ (s ≡ Sort.Path) → isNeither s ≡ false
+known-sort s (inl e) = ap isNeither e
+known-sort s (inr e) = ap isNeither e
 
 not-path : (s : Sort) → (s ≡ Sort.Node) ⊎ (s ≡ Sort.Path) → isPath s ≡ false → s ≡ Sort.Node
 not-path s (inl e) h = e
 not-path s (inr e) h = let z : true ≡ false = ap isPath (sym e) ∙ h in cc
 
-is-node : (s : Sort) → isNode s ≡ true → s ≡ Sort.Node
-is-node Sort.Node h = refl
-is-node Sort.Path h = cc
-is-node Sort.Neither h = cc
-
-is-path : (s : Sort) → isPath s ≡ true → s ≡ Sort.Path
-is-path Sort.Node h = cc
-is-path Sort.Path h = refl
-is-path Sort.Neither h = cc
-
 node-if : (t : Bool) (s : Sort) → isNode (sortIf t s) ≡ true → (t ≡ true) × (s ≡ Sort.Node)
-node-if true s h = (refl, is-node s h)
+node-if true Sort.Node h = (refl, refl)
+node-if true Sort.Path h = (refl, cc)
+node-if true Sort.Neither h = (refl, cc)
 node-if false s h = (h, cc)
 
 path-if : (t : Bool) (s : Sort) → isPath (sortIf t s) ≡ true → (t ≡ true) × (s ≡ Sort.Path)
-path-if true s h = (refl, is-path s h)
+path-if true Sort.Node h = (refl, cc)
+path-if true Sort.Path h = (refl, refl)
+path-if true Sort.Neither h = (refl, cc)
 path-if false s h = (h, cc)
 
+field-within : (F : Field) (v : ℕ) → (inRange F v ≡ true) ↔ Within F v
+field-within Field.Unused v = (eqb-true v 0, eq-eqb v 0)
+field-within Field.Property v = (leb-true v maxProperty, le-leb v maxProperty)
+field-within Field.Name v = (leb-true v maxName, le-leb v maxName)
+field-within Field.Axis v = (leb-true v maxAxis, le-leb v maxAxis)
+field-within Field.Channel v = (leb-true v maxChannel, le-leb v maxChannel)
+field-within Field.Node v = (λ h. tt, λ h. refl)
+field-within Field.Path v = (λ h. tt, λ h. refl)
+
+-- a test of each field of an entry, and what each says
+module _ (test : Field → ℕ → Bool) (Says : Field → ℕ → Type 0) (says : (F : Field) (v : ℕ) → (test F v ≡ true) ↔ Says F v) (e : Entry) where
+  abbrev tests : Bool
+  tests = test (formOf (e .kind) .x) (e .x) && test (formOf (e .kind) .y) (e .y) && test (formOf (e .kind) .z) (e .z)
+
+  abbrev SaysAll : Type 0
+  SaysAll = Says (formOf (e .kind) .x) (e .x) × Says (formOf (e .kind) .y) (e .y) × Says (formOf (e .kind) .z) (e .z)
+
+  each-field : (tests ≡ true) ↔ SaysAll
+  each-field = (λ h. apart h, λ h. together h)
+    where
+      apart : tests ≡ true → SaysAll
+      apart h =
+          let f = formOf (e .kind) in
+          let xy-z = and-true (test (f .x) (e .x) && test (f .y) (e .y)) (test (f .z) (e .z)) h in
+          let x-y = and-true (test (f .x) (e .x)) (test (f .y) (e .y)) (xy-z .0) in
+          (says (f .x) (e .x) .0 (x-y .0), says (f .y) (e .y) .0 (x-y .1), says (f .z) (e .z) .0 (xy-z .1))
+      together : SaysAll → tests ≡ true
+      together h =
+          let f = formOf (e .kind) in
+          rw (says (f .x) (e .x) .1 (h .0), says (f .y) (e .y) .1 (h .1), says (f .z) (e .z) .1 (h .2))
+
 module _ (bs : List ℕ) (k : ℕ) where
-  earlier-node : (v : ℕ) → isNode (earlierSort bs k v) ≡ true → EarlierNode bs k v
-  earlier-node v h = let r = node-if (ltb v k) (sortAt bs v) h in (ltb-true v k (r .0), r .1)
+  node-refers : (v : ℕ) → (isNode (earlierSort bs k v) ≡ true) ↔ EarlierNode bs k v
+  node-refers v =
+      (λ h. let r = node-if (ltb v k) (sortAt bs v) h in (ltb-true v k (r .0), r .1), λ h. rw (lt-ltb v k (h .0), h .1))
 
-  earlier-path : (v : ℕ) → (eqb v endOfPath ≡ true) ⊎ (isPath (earlierSort bs k v) ≡ true) → EarlierPath bs k v
-  earlier-path v (inl h) = inl (eqb-true v endOfPath h)
-  earlier-path v (inr h) = let r = path-if (ltb v k) (sortAt bs v) h in inr (ltb-true v k (r .0), r .1)
+  path-refers : (v : ℕ) → (eqb v endOfPath || isPath (earlierSort bs k v) ≡ true) ↔ EarlierPath bs k v
+  path-refers v = (λ h. apart (or-true (eqb v endOfPath) (isPath (earlierSort bs k v)) h), together)
+    where
+      apart : (eqb v endOfPath ≡ true) ⊎ (isPath (earlierSort bs k v) ≡ true) → EarlierPath bs k v
+      apart (inl h) = inl (eqb-true v endOfPath h)
+      apart (inr h) = let r = path-if (ltb v k) (sortAt bs v) h in inr (ltb-true v k (r .0), r .1)
+      together : EarlierPath bs k v → eqb v endOfPath || isPath (earlierSort bs k v) ≡ true
+      together (inl e) = rw (eq-eqb v endOfPath e)
+      together (inr h) = rw (lt-ltb v k (h .0), h .1) (Bool·or-true (eqb v endOfPath))
 
-  field-refers : (F : Field) (v : ℕ) → refersBack bs k F v ≡ true → OfField (EarlierNode bs k) (EarlierPath bs k) F v
-  field-refers Field.Unused v h = tt
-  field-refers Field.Property v h = tt
-  field-refers Field.Name v h = tt
-  field-refers Field.Axis v h = tt
-  field-refers Field.Channel v h = tt
-  field-refers Field.Node v h = earlier-node v h
-  field-refers Field.Path v h = earlier-path v (or-either _ _ h)
+  field-refers : (F : Field) (v : ℕ) → (refersBack bs k F v ≡ true) ↔ OfField (EarlierNode bs k) (EarlierPath bs k) F v
+  field-refers Field.Unused v = (λ h. tt, λ h. refl)
+  field-refers Field.Property v = (λ h. tt, λ h. refl)
+  field-refers Field.Name v = (λ h. tt, λ h. refl)
+  field-refers Field.Axis v = (λ h. tt, λ h. refl)
+  field-refers Field.Channel v = (λ h. tt, λ h. refl)
+  field-refers Field.Node v = node-refers v
+  field-refers Field.Path v = path-refers v
 
-  entry-refers : (e : Entry) → allReferBack bs k e ≡ true → OfReferences (EarlierNode bs k) (EarlierPath bs k) e
-  unfolding allReferBack
-  entry-refers e h =
-      let form = formOf (e .kind) in
-      let xy-z = and-both (refersBack bs k (form .x) (e .x) && refersBack bs k (form .y) (e .y)) (refersBack bs k (form .z) (e .z)) h in
-      let x-y = and-both (refersBack bs k (form .x) (e .x)) (refersBack bs k (form .y) (e .y)) (xy-z .0) in
-      (field-refers (form .x) (e .x) (x-y .0), field-refers (form .y) (e .y) (x-y .1), field-refers (form .z) (e .z) (xy-z .1))
-
-  -- what the check of an entry gives
-  record Checked : Type 0 where
-    sorted : (sortAt bs k ≡ Sort.Node) ⊎ (sortAt bs k ≡ Sort.Path)
-    in-range : fieldsInRange (entryAt bs k) ≡ true
-    refers : OfReferences (EarlierNode bs k) (EarlierPath bs k) (entryAt bs k)
-    different : repeatsAt bs k ≡ false
-
-  checked : entryCheck bs k ≡ passes → Checked
-  unfolding entryCheck
-  checked h =
+  entry-passes : entryCheck bs k ≡ passes → Entered bs k
+  unfolding entryCheck fieldsInRange allReferBack
+  entry-passes h =
+      let e = entryAt bs k in
       let a = then-passes (kindCheck bs k) (fieldCheck bs k then referenceCheck bs k then repeatCheck bs k) h in
       let b = then-passes (fieldCheck bs k) (referenceCheck bs k then repeatCheck bs k) (a .1) in
       let c = then-passes (referenceCheck bs k) (repeatCheck bs k) (b .1) in
       record {
-        sorted = node-or-path (sortAt bs k) (refusesIf-passes _ 4 k (a .0));
-        in-range = not-false (fieldsInRange (entryAt bs k)) (refusesIf-passes _ 5 k (b .0));
-        refers = entry-refers (entryAt bs k) (not-false (allReferBack bs k (entryAt bs k)) (refusesIf-passes _ 6 k (c .0)));
-        different = refusesIf-passes (repeatsAt bs k) 7 k (c .1);
+        sorted = sort-known (sortAt bs k) (refusesIf-passes _ 4 k (a .0));
+        within = each-field inRange Within field-within e .0 (not-false _ (refusesIf-passes _ 5 k (b .0)));
+        refers = each-field (refersBack bs k) (OfField (EarlierNode bs k) (EarlierPath bs k)) field-refers e .0 (not-false _ (refusesIf-passes _ 6 k (c .0)));
+        different = λ j l. none-at (λ i. sameEntry bs i k) k j (refusesIf-passes (repeatsAt bs k) 7 k (c .1)) l;
       }
+
+  entry-accepted : Entered bs k → entryCheck bs k ≡ passes
+  unfolding entryCheck fieldsInRange allReferBack
+  entry-accepted h =
+      let e = entryAt bs k in
+      rw
+      (known-sort (sortAt bs k) (h .sorted), each-field inRange Within field-within e .1 (h .within),
+      each-field (refersBack bs k) (OfField (EarlierNode bs k) (EarlierPath bs k)) field-refers e .1 (h .refers),
+      none-below (λ i. sameEntry bs i k) k (h .different))
 
 check-passes : (c : Check) (found : Finding) (n : ℕ) → unless c found ≡ read n → (c ≡ passes) × (found ≡ read n)
 check-passes passes found n h = (refl, h)
 check-passes (refuses number place) found n h = (cc, cc)
 
--- a pattern that was read is valid, and n is its count
+-- a pattern that was read is valid
 pub valid : (bs : List ℕ) (n : ℕ) → readingOf bs ≡ read n → Valid bs n
 unfolding readingOf patternCheck rootCheck
 valid bs n h =
@@ -136,20 +174,22 @@ valid bs n h =
     let a = then-passes (headerCheck bs) (eachBelow (countOf bs) (entryCheck bs) then rootCheck bs) (found .0) in
     let b = then-passes (eachBelow (countOf bs) (entryCheck bs)) (rootCheck bs) (a .1) in
     let count : countOf bs ≡ n = cc (found .1) in
-    rw count at (from-checks bs (a .0) (b .0) (b .1))
+    subst (λ (m : ℕ). Valid bs m) count (from-checks (header-passes bs (a .0)) (b .0) (b .1))
   where
-    from-checks : (bs : List ℕ) → headerCheck bs ≡ passes → eachBelow (countOf bs) (entryCheck bs) ≡ passes → rootCheck bs ≡ passes
-        → Valid bs (countOf bs)
-    from-checks bs header each root =
-        let size = header-passes bs header in
-        let entry : (k : ℕ) → k < countOf bs → Checked bs k = λ k l. checked bs k (each-at (entryCheck bs) (countOf bs) k each l) in
+    from-checks : Header bs → eachBelow (countOf bs) (entryCheck bs) ≡ passes → rootCheck bs ≡ passes → Valid bs (countOf bs)
+    from-checks header each root =
+        let entered : (k : ℕ) → k < countOf bs → Entered bs k = λ k l. entry-passes bs k (each-at (entryCheck bs) (countOf bs) k each l) in
         record {
+          header = header;
           count-is = refl;
-          some-entry = size .0;
-          length-is = size .1;
-          sorted = λ k l. entry k l .sorted;
-          in-range = λ k l. entry k l .in-range;
-          refers = λ k l. entry k l .refers;
-          different = λ j k l m. none-at (λ i. sameEntry bs i k) k j (entry k m .different) l;
-          root-node = not-path _ (entry (countOf bs - 1) (omega (arith, size)) .sorted) (refusesIf-passes _ 8 (countOf bs - 1) root);
+          entered = entered;
+          root-node = not-path _ (entered (countOf bs - 1) (omega (arith, header .some-entry)) .sorted) (refusesIf-passes _ 8 (countOf bs - 1) root);
         }
+
+-- a valid pattern is read
+pub valid-read : (bs : List ℕ) (n : ℕ) → Valid bs n → readingOf bs ≡ read n
+unfolding readingOf patternCheck rootCheck
+valid-read bs n h =
+    let count = h .count-is in
+    rw
+    (header-accepted bs (h .header), count, each-below (entryCheck bs) n (λ k l. entry-accepted bs k (h .entered k l)), h .root-node)

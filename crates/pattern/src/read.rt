@@ -1,7 +1,6 @@
 // Reading a pattern: document 01's refusals 1 to 8, in its order. Each check answers that it passed
 // or the refusal, and the first refusal decides.
 use crate::entry::Entry;
-use crate::entry::same_entry;
 use crate::table::END;
 use crate::table::Field;
 use crate::table::Sort;
@@ -17,6 +16,7 @@ ghost use mathlib.Core.Path.{_≡_};
 ghost use Prim.Native.Nat.{_+_, _*_, _≤_};
 ghost use lib.ListN.{length};
 ghost use Rattle.pattern.specs.Range.{eachBelow};
+ghost use Rattle.pattern.specs.Entries.{sameEntry};
 ghost use Rattle.pattern.specs.Reading.{inRange, fieldsInRange, sortAt, earlierSort, refersBack, allReferBack, repeatsAt, headerCheck, entryCheck, readingOf, checkOf, findingOf};
 
 // Document 01's refusals 1 to 8; those that have a place hold the entry's number.
@@ -87,7 +87,7 @@ fn fields_in_range(e: Entry) -> bool
 }
 
 // The sort of entry k.
-pub fn sort_at(p: &[u8], k: u8) -> Sort
+fn sort_at(p: &[u8], k: u8) -> Sort
     requires { ⌜ 10 + 4 * k ≤ length (now p) ⌝ }
     ensures { λ r. ⌜ r ≡ sortAt (now (p .entry)) k ⌝ }
 {
@@ -146,17 +146,37 @@ fn all_refer_back(p: &[u8], k: u8, e: Entry) -> bool
     refers_back(p, k, z, e.z)
 }
 
-// Whether entry k is equal to an earlier one.
+// Whether entries j and k have the same four bytes.
+fn same_entry(p: &[u8], j: u8, k: u8) -> bool
+    requires { ⌜ 10 + 4 * j ≤ length (now p) ⌝ }
+    requires { ⌜ 10 + 4 * k ≤ length (now p) ⌝ }
+    ensures { λ r. ⌜ r ≡ sameEntry (now (p .entry)) j k ⌝ }
+{
+    let a = 6 + 4 * (j as usize);
+    let b = 6 + 4 * (k as usize);
+    if p[a] != p[b] {
+        return false;
+    }
+    if p[a + 1] != p[b + 1] {
+        return false;
+    }
+    if p[a + 2] != p[b + 2] {
+        return false;
+    }
+    p[a + 3] == p[b + 3]
+}
+
+// Whether entry k is equal to an earlier one, looked for from the nearest back.
 fn repeats(p: &[u8], k: u8) -> bool
     requires { ⌜ 10 + 4 * k ≤ length (now p) ⌝ }
     ensures { λ r. ⌜ r ≡ repeatsAt (now (p .entry)) k ⌝ }
 {
-    let mut j = 0;
-    while j < k {
+    let mut j = k;
+    while 0 < j {
+        j -= 1;
         if same_entry(p, j, k) {
             return true;
         }
-        j += 1;
     }
     false
 }

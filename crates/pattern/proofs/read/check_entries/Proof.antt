@@ -1,12 +1,13 @@
 -- `pattern::read::check_entries` meets its contract: every entry passed has passed its check, by the laws of `eachBelow`.
 -- Assumes nothing.
 use borrow.Author.Needs.{needs}
-use Prim.Native.Nat.{ℕ, _+_, _*_, _≤_, _-_}
+use Prim.Native.Nat.{ℕ, _+_, _*_, _≤_, _<_, _-_}
 use mathlib.Core.Path.{_≡_, sym, ap, _∙_}
 use native.Mathlib.Omega.{arith}
 use lib.ListN.{length}
+use borrow.Author.Count.{below-none, below-more}
 use Rattle.pattern.specs.Finding.{passes}
-use Rattle.pattern.specs.Range.{eachBelow, each-below-zero, each-below-more, each-first}
+use Rattle.pattern.specs.Range.{each-below, each-first}
 use Rattle.pattern.specs.Reading.{entryCheck, checkOf}
 use Rattle.pattern.proofs.read.check_entries.Statement.{statement}
 use Rattle.pattern.proofs.read.check_entries.Tie as tie
@@ -15,13 +16,13 @@ use Rattle.pattern.proofs.read.check_entries.Lts as lts
 use Rattle.pattern.proofs.read.check_entry.Reads as check-entry-reads
 
 abbrev Inv-loop : tie.InvT-loop
-Inv-loop p n k₀ k = (k ≤ n) × (length p ≡ 6 + 4 * n) × (eachBelow k (entryCheck p) ≡ passes)
+Inv-loop p n k₀ k = (k ≤ n) × (length p ≡ 6 + 4 * n) × ((i : ℕ) → i < k → entryCheck p i ≡ passes)
 
 abbrev μ-loop : tie.MeasureT-loop
 μ-loop p n k₀ k = n - k
 
 loop-holds : tie.Need-loop-holds Inv-loop μ-loop
-loop-holds c = (search needs, search needs, each-below-zero _)
+loop-holds c = (search needs, search needs, below-none _)
 
 check-entry-requires : tie.Need-check-entry-requires Inv-loop μ-loop
 check-entry-requires c κs = search needs
@@ -47,13 +48,12 @@ loop-less : tie.Need-loop-less Inv-loop μ-loop
 loop-less c = search needs
 
 loop-again : tie.Need-loop-again Inv-loop μ-loop
-loop-again c = (search needs, search needs, each-below-more _ _ (c .before .before .before .before .loop .inv .2) (sym (c .before .before .check-entry .ensures) ∙ ap checkOf (c .enum-told .given .1)))
+loop-again c = (search needs, search needs, below-more _ _ (c .before .before .before .before .loop .inv .2) (sym (c .before .before .check-entry .ensures) ∙ ap checkOf (c .enum-told .given .1)))
 
 returns-2 : tie.Need-returns-2 Inv-loop μ-loop
 returns-2 c =
     let l = c .before in
-    let e : l .loop .k ≡ l .before .before .args .n = omega arith in
-    sym (rw e at (l .loop .inv .2))
+    sym (each-below _ _ (λ i h. l .loop .inv .2 i (omega arith)))
 
 pub check-entries-spec : {M : Type 1} → statement M
 check-entries-spec =

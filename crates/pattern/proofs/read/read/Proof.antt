@@ -31,7 +31,7 @@ shared-slice-read-n : tie.Need-shared-slice-read-n
 shared-slice-read-n c = omega (arith, header-passes (c .before .before .before .before .before .args .p .now) (sym (c .before .before .before .check-header .ensures) ∙ ap checkOf (c .before .enum-told .given .1)))
 
 check-entries-requires : tie.Need-check-entries-requires
-check-entries-requires c κs = header-passes (c .before .before .before .before .before .args .p .now) (sym (c .before .before .before .check-header .ensures) ∙ ap checkOf (c .before .enum-told .given .1)) .1
+check-entries-requires c κs = header-passes (c .before .before .before .before .before .args .p .now) (sym (c .before .before .before .check-header .ensures) ∙ ap checkOf (c .before .enum-told .given .1)) .length-is
 
 enum-known-refusal-2 : tie.Need-enum-known-refusal-2
 enum-known-refusal-2 c = search needs

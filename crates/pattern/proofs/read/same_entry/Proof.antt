@@ -1,12 +1,12 @@
--- `pattern::entry::same_entry` meets its contract: the bytes are compared in their order, and the first that differ decide.
+-- `pattern::read::same_entry` meets its contract: the bytes are compared in their order, and the first that differ decide.
 -- Assumes nothing.
 use borrow.Author.Tests.{eq-eqb, ne-eqb}
 use Rattle.pattern.specs.Entries.{sameEntry}
 use borrow.Author.Needs.{needs}
-use Rattle.pattern.proofs.entry.same_entry.Statement.{statement}
-use Rattle.pattern.proofs.entry.same_entry.Tie as tie
-use Rattle.pattern.proofs.entry.same_entry.Reads as reads
-use Rattle.pattern.proofs.entry.same_entry.Lts as lts
+use Rattle.pattern.proofs.read.same_entry.Statement.{statement}
+use Rattle.pattern.proofs.read.same_entry.Tie as tie
+use Rattle.pattern.proofs.read.same_entry.Reads as reads
+use Rattle.pattern.proofs.read.same_entry.Lts as lts
 
 mul-a : tie.Need-mul-a
 mul-a c = search needs
