@@ -123,6 +123,7 @@ module _ {bs : List ℕ} {n : ℕ} (ok : Valid bs n) where
     where
       node : (v : ℕ) → EarlierNode bs k v → N v ≡ N′ v
       node v h = same v (h .0) .0
+
       path : (v : ℕ) → EarlierPath bs k v → Agree P P′ v
       path v (inl e) = rw (eq-eqb v endOfPath e)
       path v (inr h) = ap (orEnd (eqb v endOfPath)) (same v (h .0) .1)
@@ -136,7 +137,7 @@ module _ {bs : List ℕ} {n : ℕ} (ok : Valid bs n) where
   same-within (suc d) (suc d′) k l h h′ =
       let e = entryAt bs k in
       let a = agree (nodeWithin bs d) (nodeWithin bs d′) (pathWithin bs d) (pathWithin bs d′) k l
-        (λ v m. same-within d d′ v (omega arith) (omega arith) (omega arith)) in
+      (λ v m. same-within d d′ v (omega arith) (omega arith) (omega arith)) in
       (node-same _ _ _ _ (e .x) (e .y) (e .z) (e .kind) a, path-same _ _ _ _ (e .x) (e .y) (e .z) (e .kind) a)
 
   -- the references of entry k stand for the expressions of the entries themselves

@@ -125,15 +125,15 @@ module _ (M : Model) (nom : Naming M) where
       record {
         ends = λ u v. subst (λ (α : PExp). Leads M nom α u v ↔ (u ≡ v)) (sym (end-at bs)) (end-leads u v);
         nodes = λ k l s u.
-          let e = entryAt bs k in
-          subst (λ (φ : NExp). Holds M nom φ u ↔ NodeMeans (HoldsAt bs) (LeadsAt bs) (e .kind) (e .x) (e .y) (e .z) u)
-          (sym (node-at ok k l))
-          (node-agrees (nodeAt bs) (pathAt bs) (e .x) (e .y) (e .z) (e .kind) s u);
+            let e = entryAt bs k in
+            subst (λ (φ : NExp). Holds M nom φ u ↔ NodeMeans (HoldsAt bs) (LeadsAt bs) (e .kind) (e .x) (e .y) (e .z) u)
+            (sym (node-at ok k l))
+            (node-agrees (nodeAt bs) (pathAt bs) (e .x) (e .y) (e .z) (e .kind) s u);
         paths = λ k l s u v.
-          let e = entryAt bs k in
-          subst (λ (α : PExp). Leads M nom α u v ↔ PathMeans (HoldsAt bs) (LeadsAt bs) (e .kind) (e .x) (e .y) (e .z) u v)
-          (sym (path-at ok k l))
-          (path-agrees (nodeAt bs) (pathAt bs) (e .x) (e .y) (e .z) (e .kind) s u v);
+            let e = entryAt bs k in
+            subst (λ (α : PExp). Leads M nom α u v ↔ PathMeans (HoldsAt bs) (LeadsAt bs) (e .kind) (e .x) (e .y) (e .z) u v)
+            (sym (path-at ok k l))
+            (path-agrees (nodeAt bs) (pathAt bs) (e .x) (e .y) (e .z) (e .kind) s u v);
       }
 
   -- ---- and there is no other: meanings of one pattern agree
@@ -195,15 +195,16 @@ module _ (M : Model) (nom : Naming M) where
         let e = entryAt bs k in
         let r = same-references k l (λ v g. same-below d v (omega arith) (omega arith)) in
         let r′ : OfReferences (SameNode H′ H) (SamePath L′ L) e =
-          map-references {N′ = SameNode H′ H} {P′ = SamePath L′ L} (λ v g u. Iff·symm (g u)) (λ v g u w. Iff·symm (g u w)) e r in
-        (λ s u. Iff·trans (m .nodes k l s u)
-        (Iff·trans
-        (node-carries H H′ L L′ (e .x) (e .y) (e .z) (e .kind) r u, node-carries H′ H L′ L (e .x) (e .y) (e .z) (e .kind) r′ u)
-        (Iff·symm (m′ .nodes k l s u))),
-        λ s u w. Iff·trans (m .paths k l s u w)
-        (Iff·trans
-        (path-carries H H′ L L′ (e .x) (e .y) (e .z) (e .kind) r u w, path-carries H′ H L′ L (e .x) (e .y) (e .z) (e .kind) r′ u w)
-        (Iff·symm (m′ .paths k l s u w))))
+        map-references {N′ = SameNode H′ H} {P′ = SamePath L′ L} (λ v g u. Iff·symm (g u)) (λ v g u w. Iff·symm (g u w)) e r in (
+          λ s u. Iff·trans (m .nodes k l s u)
+              (Iff·trans
+              (node-carries H H′ L L′ (e .x) (e .y) (e .z) (e .kind) r u, node-carries H′ H L′ L (e .x) (e .y) (e .z) (e .kind) r′ u)
+              (Iff·symm (m′ .nodes k l s u))),
+          λ s u w. Iff·trans (m .paths k l s u w)
+              (Iff·trans
+              (path-carries H H′ L L′ (e .x) (e .y) (e .z) (e .kind) r u w, path-carries H′ H L′ L (e .x) (e .y) (e .z) (e .kind) r′ u w)
+              (Iff·symm (m′ .paths k l s u w))),
+        )
 
     -- 01's equations determine the meaning of every entry
     pub only-one : (k : ℕ) → k < n → SameEntry bs H H′ L L′ k

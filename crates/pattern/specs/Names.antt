@@ -86,10 +86,11 @@ module _ {bs : List ℕ} {n : ℕ} (ok : Valid bs n) (Q : ℕ → Type 0) (used 
   names-below zero k h l = absurd (not-suc-le-zero h)
   names-below (suc d) k h l =
       let e = entryAt bs k in
-      let r = references k l (λ v g. names-below d v (omega arith) (omega arith)) in
-      (subst (OfNames Q) (sym (node-at ok k l)) (node-names Q (nodeAt bs) (pathAt bs) (e .x) (e .y) (e .z) (e .kind) (own-names k l) r),
-      subst (OfNamesP Q) (sym (path-at ok k l))
-      (path-names Q (nodeAt bs) (pathAt bs) (e .x) (e .y) (e .z) (e .kind) (own-names k l) r))
+      let r = references k l (λ v g. names-below d v (omega arith) (omega arith)) in (
+        subst (OfNames Q) (sym (node-at ok k l)) (node-names Q (nodeAt bs) (pathAt bs) (e .x) (e .y) (e .z) (e .kind) (own-names k l) r),
+        subst (OfNamesP Q) (sym (path-at ok k l))
+            (path-names Q (nodeAt bs) (pathAt bs) (e .x) (e .y) (e .z) (e .kind) (own-names k l) r),
+      )
     where
       references : (k : ℕ) → k < n → ((v : ℕ) → v < k → OfNames Q (nodeAt bs v) × OfNamesP Q (pathAt bs v))
           → OfReferences (λ v. OfNames Q (nodeAt bs v)) (λ v. OfNamesP Q (pathAt bs v)) (entryAt bs k)

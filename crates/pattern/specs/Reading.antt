@@ -182,6 +182,11 @@ pub header-accepted : (bs : List ℕ) → Header bs → headerCheck bs ≡ passe
 unfolding headerCheck
 header-accepted bs h =
     let long : 6 ≤ length bs = omega (arith, h .length-is) in
-    rw
-    (le-ltb (length bs) 6 long, h .marked, eq-eqb _ _ (h .version-one), ne-eqb (countOf bs) 0 (λ e. omega (arith, h .some-entry)),
-    le-ltb 255 (countOf bs) (h .one-byte), eq-eqb _ _ (h .length-is))
+    rw (
+      le-ltb (length bs) 6 long,
+      h .marked,
+      eq-eqb _ _ (h .version-one),
+      ne-eqb (countOf bs) 0 (λ e. omega (arith, h .some-entry)),
+      le-ltb 255 (countOf bs) (h .one-byte),
+      eq-eqb _ _ (h .length-is),
+    )

@@ -110,6 +110,7 @@ module _ (test : Field → ℕ → Bool) (Says : Field → ℕ → Type 0) (says
           let xy-z = and-true (test (f .x) (e .x) && test (f .y) (e .y)) (test (f .z) (e .z)) h in
           let x-y = and-true (test (f .x) (e .x)) (test (f .y) (e .y)) (xy-z .0) in
           (says (f .x) (e .x) .0 (x-y .0), says (f .y) (e .y) .0 (x-y .1), says (f .z) (e .z) .0 (xy-z .1))
+
       together : SaysAll → tests ≡ true
       together h =
           let f = formOf (e .kind) in
@@ -126,6 +127,7 @@ module _ (bs : List ℕ) (k : ℕ) where
       apart : (eqb v endOfPath ≡ true) ⊎ (isPath (earlierSort bs k v) ≡ true) → EarlierPath bs k v
       apart (inl h) = inl (eqb-true v endOfPath h)
       apart (inr h) = let r = path-if (ltb v k) (sortAt bs v) h in inr (ltb-true v k (r .0), r .1)
+
       together : EarlierPath bs k v → eqb v endOfPath || isPath (earlierSort bs k v) ≡ true
       together (inl e) = rw (eq-eqb v endOfPath e)
       together (inr h) = rw (lt-ltb v k (h .0), h .1) (Bool·or-true (eqb v endOfPath))
@@ -157,10 +159,12 @@ module _ (bs : List ℕ) (k : ℕ) where
   unfolding entryCheck fieldsInRange allReferBack
   entry-accepted h =
       let e = entryAt bs k in
-      rw
-      (known-sort (sortAt bs k) (h .sorted), each-field inRange Within field-within e .1 (h .within),
-      each-field (refersBack bs k) (OfField (EarlierNode bs k) (EarlierPath bs k)) field-refers e .1 (h .refers),
-      none-below (λ i. sameEntry bs i k) k (h .different))
+      rw (
+        known-sort (sortAt bs k) (h .sorted),
+        each-field inRange Within field-within e .1 (h .within),
+        each-field (refersBack bs k) (OfField (EarlierNode bs k) (EarlierPath bs k)) field-refers e .1 (h .refers),
+        none-below (λ i. sameEntry bs i k) k (h .different),
+      )
 
 check-passes : (c : Check) (found : Finding) (n : ℕ) → unless c found ≡ read n → (c ≡ passes) × (found ≡ read n)
 check-passes passes found n h = (refl, h)

@@ -9,8 +9,6 @@ use native.Mathlib.Omega.{arith}
 use Rattle.wire.specs.Fields.{begins-short, begins-differs, begins-same}
 use Rattle.wire.proofs.begins.Statement.{statement}
 use Rattle.wire.proofs.begins.Tie as tie
-use Rattle.wire.proofs.begins.Reads as reads
-use Rattle.wire.proofs.begins.Lts as lts
 
 abbrev Inv-loop : tie.InvT-loop
 Inv-loop s mark i₀ i = (i ≤ length mark) × (length mark ≤ length s) × ((k : ℕ) → k < i → getD s k 0 ≡ getD mark k 0)

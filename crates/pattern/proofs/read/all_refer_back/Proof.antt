@@ -6,10 +6,6 @@ use Rattle.pattern.specs.Reading.{allReferBack}
 use borrow.Author.Needs.{needs}
 use Rattle.pattern.proofs.read.all_refer_back.Statement.{statement}
 use Rattle.pattern.proofs.read.all_refer_back.Tie as tie
-use Rattle.pattern.proofs.read.all_refer_back.Reads as reads
-use Rattle.pattern.proofs.read.all_refer_back.Lts as lts
-use Rattle.pattern.proofs.read.refers_back.Reads as refers-back-reads
-use Rattle.pattern.proofs.table.Kind.form.Reads as form-reads
 
 form-requires : tie.Need-form-requires
 form-requires c κs = search needs

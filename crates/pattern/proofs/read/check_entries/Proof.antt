@@ -11,9 +11,6 @@ use Rattle.pattern.specs.Range.{each-below, each-first}
 use Rattle.pattern.specs.Reading.{entryCheck, checkOf}
 use Rattle.pattern.proofs.read.check_entries.Statement.{statement}
 use Rattle.pattern.proofs.read.check_entries.Tie as tie
-use Rattle.pattern.proofs.read.check_entries.Reads as reads
-use Rattle.pattern.proofs.read.check_entries.Lts as lts
-use Rattle.pattern.proofs.read.check_entry.Reads as check-entry-reads
 
 abbrev Inv-loop : tie.InvT-loop
 Inv-loop p n k₀ k = (k ≤ n) × (length p ≡ 6 + 4 * n) × ((i : ℕ) → i < k → entryCheck p i ≡ passes)

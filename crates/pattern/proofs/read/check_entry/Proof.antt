@@ -1,22 +1,17 @@
--- `pattern::read::check_entry` meets its contract: each test is a check of `entryCheck`, asked in its order.
+-- `pattern::read::check_entry` meets its contract: each test is a check of `entryCheck`, asked in its order. What each test that was passed
+-- shows is said once, at the place behind it.
 -- Assumes nothing.
+use mathlib.Core.Path.{_≡_, sym, ap, _∙_}
+use mathlib.Core.Bool.{Bool, true, false}
+use borrow.Author.Needs.{needs}
 use borrow.Author.Tests.{not-true, not-false}
-use mathlib.Core.Path.{sym, ap, _∙_}
 use Rattle.pattern.specs.declared.entry.Entry.{Entry}
 use Rattle.pattern.specs.Table.{sortOf, isNeither}
-use Rattle.pattern.specs.Reading.{fieldsInRange, allReferBack, entryCheck}
+use Rattle.pattern.specs.Entries.{entryAt}
+use Rattle.pattern.specs.Reading.{sortAt, fieldsInRange, allReferBack, entryCheck}
 use Rattle.pattern.proofs.Asked.{asked}
-use borrow.Author.Needs.{needs}
 use Rattle.pattern.proofs.read.check_entry.Statement.{statement}
 use Rattle.pattern.proofs.read.check_entry.Tie as tie
-use Rattle.pattern.proofs.read.check_entry.Reads as reads
-use Rattle.pattern.proofs.read.check_entry.Lts as lts
-use Rattle.pattern.proofs.entry.Entry.at.Reads as at-reads
-use Rattle.pattern.proofs.read.all_refer_back.Reads as all-refer-back-reads
-use Rattle.pattern.proofs.read.fields_in_range.Reads as fields-in-range-reads
-use Rattle.pattern.proofs.read.repeats.Reads as repeats-reads
-use Rattle.pattern.proofs.table.Kind.sort.Reads as sort-reads
-use Rattle.pattern.proofs.table.Sort.is_neither.Reads as is-neither-reads
 
 at-requires : tie.Need-at-requires
 at-requires c κs = search needs
@@ -27,34 +22,48 @@ sort-requires c κs = search needs
 is-neither-requires : tie.Need-is-neither-requires
 is-neither-requires c κs = search needs
 
+sort-asked : (c : tie.After-is-neither) (t : Bool) → c .is-neither .result ≡ t
+    → isNeither (sortAt (c .before .before .before .before .args .p .now) (c .before .before .before .before .args .k)) ≡ t
+sort-asked c t h =
+    asked isNeither (c .before .sort .ensures ∙ ap (λ (e : Entry). sortOf (e .kind)) (c .before .before .at .ensures)) (c .is-neither .ensures) h
+
 returns : tie.Need-returns
 unfolding entryCheck
-returns c =
-    rw
-    (asked isNeither (c .before .before .sort .ensures ∙ ap (λ (e : Entry). sortOf (e .kind)) (c .before .before .before .at .ensures)) (c .before .is-neither .ensures) (c .if1 .taken))
+returns c = rw (sort-asked (c .before) true (c .if1 .taken))
 
 fields-in-range-requires : tie.Need-fields-in-range-requires
 fields-in-range-requires c κs = search needs
 
+fields-asked : (c : tie.After-fields-in-range) (t : Bool) → c .fields-in-range .result ≡ t
+    → let a = c .before .before .before .before .before .before .args in fieldsInRange (entryAt (a .p .now) (a .k)) ≡ t
+fields-asked c t h = asked fieldsInRange (c .before .before .before .before .at .ensures) (c .fields-in-range .ensures) h
+
 returns-2 : tie.Need-returns-2
 unfolding entryCheck
 returns-2 c =
-    rw (
-      asked isNeither (c .before .before .before .before .sort .ensures ∙ ap (λ (e : Entry). sortOf (e .kind)) (c .before .before .before .before .before .at .ensures)) (c .before .before .before .is-neither .ensures) (c .before .before .if1 .left),
-      asked fieldsInRange (c .before .before .before .before .before .at .ensures) (c .before .fields-in-range .ensures) (not-true _ (c .if2 .taken)),
-    )
+    let f = c .before in
+    rw (sort-asked (f .before .before) false (f .before .if1 .left), fields-asked f false (not-true _ (c .if2 .taken)))
 
 all-refer-back-requires : tie.Need-all-refer-back-requires
 all-refer-back-requires c κs = search needs
 
+references-asked : (c : tie.After-all-refer-back) (t : Bool) → c .all-refer-back .result ≡ t
+    → let a = c .before .before .before .before .before .before .before .before .args in
+      allReferBack (a .p .now) (a .k) (entryAt (a .p .now) (a .k)) ≡ t
+references-asked c t h =
+    let s = c .before .before .before .before .before .before in
+    let a = s .before .before .args in
+    asked (λ (e : Entry). allReferBack (a .p .now) (a .k) e) (s .at .ensures) (c .all-refer-back .ensures) h
+
 returns-3 : tie.Need-returns-3
 unfolding entryCheck
 returns-3 c =
-    rw (
-      asked isNeither (c .before .before .before .before .before .before .sort .ensures ∙ ap (λ (e : Entry). sortOf (e .kind)) (c .before .before .before .before .before .before .before .at .ensures)) (c .before .before .before .before .before .is-neither .ensures) (c .before .before .before .before .if1 .left),
-      asked fieldsInRange (c .before .before .before .before .before .before .before .at .ensures) (c .before .before .before .fields-in-range .ensures) (not-false _ (c .before .before .if2 .left)),
-      asked (λ (e : Entry). allReferBack (c .before .before .before .before .before .before .before .before .before .args .p .now) (c .before .before .before .before .before .before .before .before .before .args .k) e) (c .before .before .before .before .before .before .before .at .ensures) (c .before .all-refer-back .ensures) (not-true _ (c .if3 .taken)),
-    )
+    let r = c .before in
+    let f = r .before .before in
+    rw
+    (sort-asked (f .before .before) false (f .before .if1 .left),
+    fields-asked f true (not-false _ (r .before .if2 .left)),
+    references-asked r false (not-true _ (c .if3 .taken)))
 
 repeats-requires : tie.Need-repeats-requires
 repeats-requires c κs = search needs
@@ -62,22 +71,24 @@ repeats-requires c κs = search needs
 returns-4 : tie.Need-returns-4
 unfolding entryCheck
 returns-4 c =
-    rw (
-      asked isNeither (c .before .before .before .before .before .before .before .before .sort .ensures ∙ ap (λ (e : Entry). sortOf (e .kind)) (c .before .before .before .before .before .before .before .before .before .at .ensures)) (c .before .before .before .before .before .before .before .is-neither .ensures) (c .before .before .before .before .before .before .if1 .left),
-      asked fieldsInRange (c .before .before .before .before .before .before .before .before .before .at .ensures) (c .before .before .before .before .before .fields-in-range .ensures) (not-false _ (c .before .before .before .before .if2 .left)),
-      asked (λ (e : Entry). allReferBack (c .before .before .before .before .before .before .before .before .before .before .before .args .p .now) (c .before .before .before .before .before .before .before .before .before .before .before .args .k) e) (c .before .before .before .before .before .before .before .before .before .at .ensures) (c .before .before .before .all-refer-back .ensures) (not-false _ (c .before .before .if3 .left)),
-      sym (c .before .repeats .ensures) ∙ c .if4 .taken,
-    )
+    let r = c .before .before .before in
+    let f = r .before .before in
+    rw
+    (sort-asked (f .before .before) false (f .before .if1 .left),
+    fields-asked f true (not-false _ (r .before .if2 .left)),
+    references-asked r true (not-false _ (c .before .before .if3 .left)),
+    sym (c .before .repeats .ensures) ∙ c .if4 .taken)
 
 returns-5 : tie.Need-returns-5
 unfolding entryCheck
 returns-5 c =
-    rw (
-      asked isNeither (c .before .before .before .before .before .before .before .before .sort .ensures ∙ ap (λ (e : Entry). sortOf (e .kind)) (c .before .before .before .before .before .before .before .before .before .at .ensures)) (c .before .before .before .before .before .before .before .is-neither .ensures) (c .before .before .before .before .before .before .if1 .left),
-      asked fieldsInRange (c .before .before .before .before .before .before .before .before .before .at .ensures) (c .before .before .before .before .before .fields-in-range .ensures) (not-false _ (c .before .before .before .before .if2 .left)),
-      asked (λ (e : Entry). allReferBack (c .before .before .before .before .before .before .before .before .before .before .before .args .p .now) (c .before .before .before .before .before .before .before .before .before .before .before .args .k) e) (c .before .before .before .before .before .before .before .before .before .at .ensures) (c .before .before .before .all-refer-back .ensures) (not-false _ (c .before .before .if3 .left)),
-      sym (c .before .repeats .ensures) ∙ c .if4 .left,
-    )
+    let r = c .before .before .before in
+    let f = r .before .before in
+    rw
+    (sort-asked (f .before .before) false (f .before .if1 .left),
+    fields-asked f true (not-false _ (r .before .if2 .left)),
+    references-asked r true (not-false _ (c .before .before .if3 .left)),
+    sym (c .before .repeats .ensures) ∙ c .if4 .left)
 
 pub check-entry-spec : {M : Type 1} → statement M
 check-entry-spec =

@@ -4,9 +4,6 @@ use borrow.Author.Tests.{lt-ltb, le-ltb}
 use borrow.Author.Needs.{needs}
 use Rattle.pattern.proofs.read.earlier_sort.Statement.{statement}
 use Rattle.pattern.proofs.read.earlier_sort.Tie as tie
-use Rattle.pattern.proofs.read.earlier_sort.Reads as reads
-use Rattle.pattern.proofs.read.earlier_sort.Lts as lts
-use Rattle.pattern.proofs.read.sort_at.Reads as sort-at-reads
 
 sort-at-requires : tie.Need-sort-at-requires
 sort-at-requires c κs = search needs

@@ -6,10 +6,6 @@ use Rattle.pattern.specs.Reading.{fieldsInRange}
 use borrow.Author.Needs.{needs}
 use Rattle.pattern.proofs.read.fields_in_range.Statement.{statement}
 use Rattle.pattern.proofs.read.fields_in_range.Tie as tie
-use Rattle.pattern.proofs.read.fields_in_range.Reads as reads
-use Rattle.pattern.proofs.read.fields_in_range.Lts as lts
-use Rattle.pattern.proofs.read.in_range.Reads as in-range-reads
-use Rattle.pattern.proofs.table.Kind.form.Reads as form-reads
 
 form-requires : tie.Need-form-requires
 form-requires c κs = search needs

@@ -5,12 +5,6 @@ use Rattle.pattern.specs.Types.{maxProperty, maxName, maxAxis, maxChanne
 use borrow.Author.Needs.{needs}
 use Rattle.pattern.proofs.read.in_range.Statement.{statement}
 use Rattle.pattern.proofs.read.in_range.Tie as tie
-use Rattle.pattern.proofs.read.in_range.Reads as reads
-use Rattle.pattern.proofs.read.in_range.Lts as lts
-use Rattle.pattern.proofs.types.Axis.of.Reads as types-Axis-of-reads
-use Rattle.pattern.proofs.types.Channel.of.Reads as types-Channel-of-reads
-use Rattle.pattern.proofs.types.Name.of.Reads as types-Name-of-reads
-use Rattle.pattern.proofs.types.Property.of.Reads as types-Property-of-reads
 
 enum-told : tie.Need-enum-told
 enum-told c = search needs

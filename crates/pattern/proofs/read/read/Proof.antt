@@ -1,18 +1,17 @@
--- `pattern::read::read` meets its contract: the checks are those of `patternCheck`, in its order.
+-- `pattern::read::read` meets its contract: the checks are those of `patternCheck`, in its order. What each check that passed shows is said
+-- once, at the place behind it.
 -- Assumes nothing.
+use mathlib.Core.Path.{_≡_, sym, ap, _∙_}
+use mathlib.Core.Bool.{Bool, true, false}
 use native.Mathlib.Omega.{arith}
-use mathlib.Core.Path.{sym, ap, _∙_}
-use Rattle.pattern.specs.Table.{isPath}
-use Rattle.pattern.specs.Reading.{checkOf, rootCheck, patternCheck, readingOf, header-passes}
 use borrow.Author.Needs.{needs}
+use Rattle.pattern.specs.Finding.{passes}
+use Rattle.pattern.specs.Range.{eachBelow}
+use Rattle.pattern.specs.Table.{isPath}
+use Rattle.pattern.specs.Reading.{checkOf, countOf, headerCheck, entryCheck, rootCheck, patternCheck, readingOf, Header, header-passes}
+use Rattle.pattern.proofs.Asked.{asked}
 use Rattle.pattern.proofs.read.read.Statement.{statement}
 use Rattle.pattern.proofs.read.read.Tie as tie
-use Rattle.pattern.proofs.read.read.Reads as reads
-use Rattle.pattern.proofs.read.read.Lts as lts
-use Rattle.pattern.proofs.read.check_entries.Reads as check-entries-reads
-use Rattle.pattern.proofs.read.check_header.Reads as check-header-reads
-use Rattle.pattern.proofs.read.sort_at.Reads as sort-at-reads
-use Rattle.pattern.proofs.table.Sort.is_path.Reads as is-path-reads
 
 check-header-requires : tie.Need-check-header-requires
 check-header-requires c κs = search needs
@@ -21,47 +20,70 @@ enum-known-refusal : tie.Need-enum-known-refusal
 enum-known-refusal c = search needs
 
 returns : tie.Need-returns
-unfolding rootCheck patternCheck readingOf
+unfolding patternCheck readingOf
 returns c = rw (sym (c .before .before .before .check-header .ensures) ∙ ap checkOf (c .before .refusal .given .1))
 
 enum-told : tie.Need-enum-told
 enum-told c = search needs
 
+header-passed : (c : tie.After-enum-told) → headerCheck (c .before .before .before .before .args .p .now) ≡ passes
+header-passed c = sym (c .before .before .check-header .ensures) ∙ ap checkOf (c .enum-told .given .1)
+
+header-of : (c : tie.After-enum-told) → Header (c .before .before .before .before .args .p .now)
+header-of c = header-passes (c .before .before .before .before .args .p .now) (header-passed c)
+
 shared-slice-read-n : tie.Need-shared-slice-read-n
-shared-slice-read-n c = omega (arith, header-passes (c .before .before .before .before .before .args .p .now) (sym (c .before .before .before .check-header .ensures) ∙ ap checkOf (c .before .enum-told .given .1)))
+shared-slice-read-n c = omega (arith, header-of (c .before))
 
 check-entries-requires : tie.Need-check-entries-requires
-check-entries-requires c κs = header-passes (c .before .before .before .before .before .args .p .now) (sym (c .before .before .before .check-header .ensures) ∙ ap checkOf (c .before .enum-told .given .1)) .length-is
+check-entries-requires c κs = header-of (c .before) .length-is
 
 enum-known-refusal-2 : tie.Need-enum-known-refusal-2
 enum-known-refusal-2 c = search needs
 
 returns-2 : tie.Need-returns-2
-unfolding rootCheck patternCheck readingOf
-returns-2 c = rw (sym (c .before .before .before .before .before .before .before .check-header .ensures) ∙ ap checkOf (c .before .before .before .before .before .enum-told .given .1), sym (c .before .before .before .check-entries .ensures) ∙ ap checkOf (c .before .refusal2 .given .1))
+unfolding patternCheck readingOf
+returns-2 c =
+    let e = c .before .before .before in
+    rw (header-passed (e .before .before), sym (e .check-entries .ensures) ∙ ap checkOf (c .before .refusal2 .given .1))
 
 enum-told-2 : tie.Need-enum-told-2
 enum-told-2 c = search needs
 
+entries-passed : (c : tie.After-enum-told2)
+    → let p = c .before .before .before .before .before .before .before .before .args .p .now in
+      eachBelow (countOf p) (entryCheck p) ≡ passes
+entries-passed c = sym (c .before .before .check-entries .ensures) ∙ ap checkOf (c .enum-told2 .given .1)
+
 sub-sort-at : tie.Need-sub-sort-at
-sub-sort-at c = omega (arith, header-passes (c .before .before .before .before .before .before .before .before .args .p .now) (sym (c .before .before .before .before .before .before .check-header .ensures) ∙ ap checkOf (c .before .before .before .before .enum-told .given .1)))
+sub-sort-at c = omega (arith, header-of (c .before .before .before .before))
 
 sort-at-requires : tie.Need-sort-at-requires
-sort-at-requires c κs = omega (arith, header-passes (c .before .before .before .before .before .before .before .before .args .p .now) (sym (c .before .before .before .before .before .before .check-header .ensures) ∙ ap checkOf (c .before .before .before .before .enum-told .given .1)))
+sort-at-requires c κs = omega (arith, header-of (c .before .before .before .before))
 
 is-path-requires : tie.Need-is-path-requires
 is-path-requires c κs = search needs
 
 sub-t11 : tie.Need-sub-t11
-sub-t11 c = omega (arith, header-passes (c .before .before .before .before .before .before .before .before .before .before .before .args .p .now) (sym (c .before .before .before .before .before .before .before .before .before .check-header .ensures) ∙ ap checkOf (c .before .before .before .before .before .before .before .enum-told .given .1)))
+sub-t11 c = omega (arith, header-of (c .before .before .before .before .before .before .before))
 
 returns-3 : tie.Need-returns-3
 unfolding rootCheck patternCheck readingOf
-returns-3 c = rw (sym (c .before .before .before .before .before .before .before .before .before .check-header .ensures) ∙ ap checkOf (c .before .before .before .before .before .before .before .enum-told .given .1), sym (c .before .before .before .before .before .check-entries .ensures) ∙ ap checkOf (c .before .before .before .enum-told2 .given .1), ap isPath (sym (c .before .before .sort-at .ensures)) ∙ (sym (c .before .is-path .ensures) ∙ c .if1 .taken))
+returns-3 c =
+    let e = c .before .before .before in
+    rw
+    (header-passed (e .before .before .before .before),
+    entries-passed e,
+    asked isPath (c .before .before .sort-at .ensures) (c .before .is-path .ensures) (c .if1 .taken))
 
 returns-4 : tie.Need-returns-4
 unfolding rootCheck patternCheck readingOf
-returns-4 c = rw (sym (c .before .before .before .before .before .before .before .before .before .check-header .ensures) ∙ ap checkOf (c .before .before .before .before .before .before .before .enum-told .given .1), sym (c .before .before .before .before .before .check-entries .ensures) ∙ ap checkOf (c .before .before .before .enum-told2 .given .1), ap isPath (sym (c .before .before .sort-at .ensures)) ∙ (sym (c .before .is-path .ensures) ∙ c .if1 .left))
+returns-4 c =
+    let e = c .before .before .before in
+    rw
+    (header-passed (e .before .before .before .before),
+    entries-passed e,
+    asked isPath (c .before .before .sort-at .ensures) (c .before .is-path .ensures) (c .if1 .left))
 
 pub read-spec : {M : Type 1} → statement M
 read-spec =

@@ -4,11 +4,6 @@ use borrow.Author.Tests.{eq-eqb, ne-eqb}
 use borrow.Author.Needs.{needs}
 use Rattle.pattern.proofs.read.refers_back.Statement.{statement}
 use Rattle.pattern.proofs.read.refers_back.Tie as tie
-use Rattle.pattern.proofs.read.refers_back.Reads as reads
-use Rattle.pattern.proofs.read.refers_back.Lts as lts
-use Rattle.pattern.proofs.read.earlier_sort.Reads as earlier-sort-reads
-use Rattle.pattern.proofs.table.Sort.is_node.Reads as is-node-reads
-use Rattle.pattern.proofs.table.Sort.is_path.Reads as is-path-reads
 
 enum-told : tie.Need-enum-told
 enum-told c = search needs

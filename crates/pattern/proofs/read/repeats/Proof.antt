@@ -9,9 +9,6 @@ use Rattle.pattern.specs.Range.{none-below, some-at, above-less}
 use Rattle.pattern.specs.Entries.{sameEntry}
 use Rattle.pattern.proofs.read.repeats.Statement.{statement}
 use Rattle.pattern.proofs.read.repeats.Tie as tie
-use Rattle.pattern.proofs.read.repeats.Reads as reads
-use Rattle.pattern.proofs.read.repeats.Lts as lts
-use Rattle.pattern.proofs.read.same_entry.Reads as same-entry-reads
 
 abbrev Inv-loop : tie.InvT-loop
 Inv-loop p k j₀ j = (j ≤ k) × ((i : ℕ) → j ≤ i → i < k → sameEntry p i k ≡ false)
@@ -35,7 +32,7 @@ loop-less : tie.Need-loop-less Inv-loop μ-loop
 loop-less c = search needs
 
 loop-again : tie.Need-loop-again Inv-loop μ-loop
-loop-again c = 
+loop-again c =
     let l = c .before .before in
     (search needs, above-less _ (l .before .loop .j) _ (l .loop-test .taken) (l .before .loop .inv .1) (sym (c .before .same-entry .ensures) ∙ c .if1 .left))
 

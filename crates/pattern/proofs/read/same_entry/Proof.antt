@@ -5,8 +5,6 @@ use Rattle.pattern.specs.Entries.{sameEntry}
 use borrow.Author.Needs.{needs}
 use Rattle.pattern.proofs.read.same_entry.Statement.{statement}
 use Rattle.pattern.proofs.read.same_entry.Tie as tie
-use Rattle.pattern.proofs.read.same_entry.Reads as reads
-use Rattle.pattern.proofs.read.same_entry.Lts as lts
 
 mul-a : tie.Need-mul-a
 mul-a c = search needs

@@ -6,10 +6,6 @@ use Rattle.pattern.specs.Table.{sortOf}
 use borrow.Author.Needs.{needs}
 use Rattle.pattern.proofs.read.sort_at.Statement.{statement}
 use Rattle.pattern.proofs.read.sort_at.Tie as tie
-use Rattle.pattern.proofs.read.sort_at.Reads as reads
-use Rattle.pattern.proofs.read.sort_at.Lts as lts
-use Rattle.pattern.proofs.entry.Entry.at.Reads as at-reads
-use Rattle.pattern.proofs.table.Kind.sort.Reads as sort-reads
 
 at-requires : tie.Need-at-requires
 at-requires c κs = search needs

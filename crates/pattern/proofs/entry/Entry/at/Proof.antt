@@ -3,9 +3,6 @@
 use borrow.Author.Needs.{needs}
 use Rattle.pattern.proofs.entry.Entry.at.Statement.{statement}
 use Rattle.pattern.proofs.entry.Entry.at.Tie as tie
-use Rattle.pattern.proofs.entry.Entry.at.Reads as reads
-use Rattle.pattern.proofs.entry.Entry.at.Lts as lts
-use Rattle.pattern.proofs.table.Kind.of.Reads as of-reads
 
 mul-at : tie.Need-mul-at
 mul-at c = search needs

@@ -3,9 +3,6 @@
 use borrow.Author.Needs.{needs}
 use Rattle.pattern.proofs.table.Kind.form.Statement.{statement}
 use Rattle.pattern.proofs.table.Kind.form.Tie as tie
-use Rattle.pattern.proofs.table.Kind.form.Reads as reads
-use Rattle.pattern.proofs.table.Kind.form.Lts as lts
-use Rattle.pattern.proofs.table.row.Reads as row-reads
 
 enum-told : tie.Need-enum-told
 enum-told c = search needs

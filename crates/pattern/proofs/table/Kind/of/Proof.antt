@@ -5,8 +5,6 @@ use Rattle.pattern.specs.Table.{kind-beyond}
 use borrow.Author.Needs.{needs}
 use Rattle.pattern.proofs.table.Kind.of.Statement.{statement}
 use Rattle.pattern.proofs.table.Kind.of.Tie as tie
-use Rattle.pattern.proofs.table.Kind.of.Reads as reads
-use Rattle.pattern.proofs.table.Kind.of.Lts as lts
 
 returns : tie.Need-returns
 returns c = search needs

@@ -4,8 +4,6 @@ use mathlib.Core.Path.{sym}
 use Rattle.pattern.specs.Types.{maxAxis, make-in, make-out}
 use Rattle.pattern.proofs.types.Axis.of.Statement.{statement}
 use Rattle.pattern.proofs.types.Axis.of.Tie as tie
-use Rattle.pattern.proofs.types.Axis.of.Reads as reads
-use Rattle.pattern.proofs.types.Axis.of.Lts as lts
 
 returns : tie.Need-returns
 returns c = sym (make-in maxAxis (c .before .args .number) (c .if1 .taken))

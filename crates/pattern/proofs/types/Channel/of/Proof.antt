@@ -5,8 +5,6 @@ use native.Mathlib.Omega.{arith}
 use Rattle.pattern.specs.Types.{maxChannel, make-out}
 use Rattle.pattern.proofs.types.Channel.of.Statement.{statement}
 use Rattle.pattern.proofs.types.Channel.of.Tie as tie
-use Rattle.pattern.proofs.types.Channel.of.Reads as reads
-use Rattle.pattern.proofs.types.Channel.of.Lts as lts
 
 returns : tie.Need-returns
 returns c = rw (c .match .keys1)

@@ -4,8 +4,6 @@ use mathlib.Core.Path.{sym}
 use Rattle.pattern.specs.Types.{maxName, make-in, make-out}
 use Rattle.pattern.proofs.types.Name.of.Statement.{statement}
 use Rattle.pattern.proofs.types.Name.of.Tie as tie
-use Rattle.pattern.proofs.types.Name.of.Reads as reads
-use Rattle.pattern.proofs.types.Name.of.Lts as lts
 
 returns : tie.Need-returns
 returns c = sym (make-in maxName (c .before .args .number) (c .if1 .taken))

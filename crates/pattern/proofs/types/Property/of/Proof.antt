@@ -4,8 +4,6 @@ use mathlib.Core.Path.{sym}
 use Rattle.pattern.specs.Types.{maxProperty, make-in, make-out}
 use Rattle.pattern.proofs.types.Property.of.Statement.{statement}
 use Rattle.pattern.proofs.types.Property.of.Tie as tie
-use Rattle.pattern.proofs.types.Property.of.Reads as reads
-use Rattle.pattern.proofs.types.Property.of.Lts as lts
 
 returns : tie.Need-returns
 returns c = sym (make-in maxProperty (c .before .args .number) (c .if1 .taken))
