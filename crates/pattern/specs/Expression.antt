@@ -15,7 +15,7 @@ use Rattle.pattern.specs.declared.entry.Entry.{Entry}
 use Rattle.pattern.specs.Syntax.{NExp, PExp, truth}
 use Rattle.pattern.specs.Table.{endOfPath}
 use Rattle.pattern.specs.Entries.{entryAt}
-use Rattle.pattern.specs.References.{OfReferences, map-references}
+use Rattle.pattern.specs.Fields.{OfReferences, map-references}
 use Rattle.pattern.specs.Valid.{Valid, EarlierNode, EarlierPath}
 
 -- End of path. 000 has no empty path; [⊤], which leads from each node to itself alone, stands for it.

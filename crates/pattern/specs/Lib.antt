@@ -7,9 +7,9 @@ pub mod Tests
 pub mod Finding
 pub mod Range
 pub mod Table
+pub mod Fields
 pub mod Entries
 pub mod Reading
-pub mod References
 pub mod Valid
 pub mod Expression
 pub mod Meaning

@@ -15,7 +15,7 @@ use Rattle.pattern.specs.Semantics.{Model, Naming, Leads, Holds}
 use Rattle.pattern.specs.Table.{endOfPath, sortOf, path-no-node, neither-no-node, neither-no-path}
 use Rattle.pattern.specs.Entries.{entryAt}
 use Rattle.pattern.specs.Reading.{sortAt}
-use Rattle.pattern.specs.References.{OfReferences, map-references}
+use Rattle.pattern.specs.Fields.{OfReferences, map-references}
 use Rattle.pattern.specs.Valid.{Valid, EarlierNode, EarlierPath}
 use Rattle.pattern.specs.Expression.{end, nodeOf, pathOf, nodeAt, pathAt, node-at, path-at, end-at}
 

@@ -18,7 +18,7 @@ use Rattle.pattern.specs.Range.{someBelow, some-at}
 use Rattle.pattern.specs.Table.{endOfPath}
 use Rattle.pattern.specs.Entries.{entryAt}
 use Rattle.pattern.specs.Reading.{countOf}
-use Rattle.pattern.specs.References.{OfReferences, map-references}
+use Rattle.pattern.specs.Fields.{OfReferences, map-references}
 use Rattle.pattern.specs.Valid.{Valid, EarlierNode, EarlierPath}
 use Rattle.pattern.specs.Expression.{end, nodeOf, pathOf, nodeAt, pathAt, node-at, path-at, end-at}
 

@@ -11,7 +11,6 @@ use lib.Dec.{leb, ltb, eqb}
 use Rattle.wire.specs.Fields.{beginsWith, wordAt}
 use Rattle.pattern.specs.declared.table.Sort.{Sort}
 use Rattle.pattern.specs.declared.table.Field.{Field}
-use Rattle.pattern.specs.declared.table.Form.{Form}
 use Rattle.pattern.specs.declared.entry.Entry.{Entry}
 use Rattle.pattern.specs.declared.read.PatternRefusal.{PatternRefusal}
 use Rattle.pattern.specs.declared.read.PatternCheck.{PatternCheck}
@@ -20,7 +19,8 @@ use Rattle.pattern.specs.Tests.{or-false}
 use Rattle.pattern.specs.Types.{maxName, maxProperty, maxAxis, maxChannel}
 use Rattle.pattern.specs.Finding.{Finding, read, refused, Check, passes, refuses, refusesIf, _then_, unless, then-passes, refusesIf-passes}
 use Rattle.pattern.specs.Range.{someBelow, eachBelow}
-use Rattle.pattern.specs.Table.{endOfPath, sortOf, formOf, isNeither, isNode, isPath}
+use Rattle.pattern.specs.Table.{endOfPath, sortOf, isNeither, isNode, isPath}
+use Rattle.pattern.specs.Fields.{eachField}
 use Rattle.pattern.specs.Entries.{entryAt, sameEntry}
 
 -- the mark `PAT`
@@ -56,9 +56,8 @@ inRange Field.Channel v = leb v maxChannel
 inRange Field.Node v = true
 inRange Field.Path v = true
 
-unfoldable pub fieldsInRange : Entry → Bool
-fieldsInRange e =
-    inRange (formOf (e .kind) .x) (e .x) && inRange (formOf (e .kind) .y) (e .y) && inRange (formOf (e .kind) .z) (e .z)
+abbrev pub fieldsInRange : Entry → Bool
+fieldsInRange e = eachField inRange e
 
 abbrev pub sortIf : Bool → Sort → Sort
 sortIf true s = s
@@ -81,10 +80,8 @@ refersBack bs k Field.Channel v = true
 refersBack bs k Field.Node v = isNode (earlierSort bs k v)
 refersBack bs k Field.Path v = eqb v endOfPath || isPath (earlierSort bs k v)
 
-unfoldable pub allReferBack : List ℕ → ℕ → Entry → Bool
-allReferBack bs k e =
-    refersBack bs k (formOf (e .kind) .x) (e .x) && refersBack bs k (formOf (e .kind) .y) (e .y)
-    && refersBack bs k (formOf (e .kind) .z) (e .z)
+abbrev pub allReferBack : List ℕ → ℕ → Entry → Bool
+allReferBack bs k e = eachField (refersBack bs k) e
 
 -- "equal to an earlier entry"
 abbrev pub repeatsAt : List ℕ → ℕ → Bool

@@ -5,8 +5,9 @@ use mathlib.Core.List.{List, [], _∷_, _++_}
 use Prim.Native.Nat.{ℕ}
 use Rattle.pattern.specs.Finding.{read, refused}
 use Rattle.pattern.specs.Range.{someBelow, eachBelow}
+use Rattle.pattern.specs.Fields.{eachField}
 use Rattle.pattern.specs.Entries.{sameEntry}
-use Rattle.pattern.specs.Reading.{mark, fieldsInRange, allReferBack, headerCheck, entryCheck, rootCheck, patternCheck, readingOf}
+use Rattle.pattern.specs.Reading.{mark, headerCheck, entryCheck, rootCheck, patternCheck, readingOf}
 
 -- each of the claims
 abbrev pub All : List (Type 0) → Type 0
@@ -37,5 +38,5 @@ abbrev pub readings : List (Type 0)
 readings = E ∷ F ∷ J ∷ []
 
 pub readings-hold : All readings
-unfolding readingOf patternCheck headerCheck entryCheck rootCheck fieldsInRange allReferBack someBelow eachBelow sameEntry
+unfolding readingOf patternCheck headerCheck entryCheck rootCheck eachField someBelow eachBelow sameEntry
 readings-hold = (refl, (refl, ((refl, refl, refl, refl), tt)))

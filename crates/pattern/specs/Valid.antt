@@ -21,7 +21,7 @@ use Rattle.pattern.specs.Range.{eachBelow, each-at, each-below, none-at,
 use Rattle.pattern.specs.Table.{endOfPath, formOf, isNode, isPath, isNeither}
 use Rattle.pattern.specs.Entries.{entryAt, sameEntry}
 use Rattle.pattern.specs.Reading.{countOf, inRange, fieldsInRange, sortIf, sortAt, earlierSort, refersBack, allReferBack, repeatsAt, headerCheck, kindCheck, fieldCheck, referenceCheck, repeatCheck, entryCheck, rootCheck, patternCheck, readingOf, Header, header-passes, header-accepted}
-use Rattle.pattern.specs.References.{OfField, OfReferences}
+use Rattle.pattern.specs.Fields.{OfFields, OfReference, OfReferences, each-field}
 
 -- a field's value is in the range of what the field holds
 abbrev pub Within : Field → ℕ → Type 0
@@ -32,9 +32,6 @@ Within Field.Axis v = v ≤ maxAxis
 Within Field.Channel v = v ≤ maxChannel
 Within Field.Node v = Unit {0}
 Within Field.Path v = Unit {0}
-
-abbrev pub WithinAll : Entry → Type 0
-WithinAll e = Within (formOf (e .kind) .x) (e .x) × Within (formOf (e .kind) .y) (e .y) × Within (formOf (e .kind) .z) (e .z)
 
 -- entry v stands before entry k and is a node
 abbrev pub EarlierNode : List ℕ → ℕ → ℕ → Type 0
@@ -47,7 +44,7 @@ EarlierPath bs k v = (v ≡ endOfPath) ⊎ ((v < k) × (sortAt bs v ≡ Sort.Pat
 -- an entry that meets the checks 4 to 7
 pub record Entered (bs : List ℕ) (k : ℕ) : Type 0 where
   pub sorted : (sortAt bs k ≡ Sort.Node) ⊎ (sortAt bs k ≡ Sort.Path)
-  pub within : WithinAll (entryAt bs k)
+  pub within : OfFields Within (entryAt bs k)
   pub refers : OfReferences (EarlierNode bs k) (EarlierPath bs k) (entryAt bs k)
   pub different : (j : ℕ) → j < k → sameEntry bs j k ≡ false
 
@@ -93,29 +90,6 @@ field-within Field.Channel v = (leb-true v maxChannel, le-leb v maxChannel)
 field-within Field.Node v = (λ h. tt, λ h. refl)
 field-within Field.Path v = (λ h. tt, λ h. refl)
 
--- a test of each field of an entry, and what each says
-module _ (test : Field → ℕ → Bool) (Says : Field → ℕ → Type 0) (says : (F : Field) (v : ℕ) → (test F v ≡ true) ↔ Says F v) (e : Entry) where
-  abbrev tests : Bool
-  tests = test (formOf (e .kind) .x) (e .x) && test (formOf (e .kind) .y) (e .y) && test (formOf (e .kind) .z) (e .z)
-
-  abbrev SaysAll : Type 0
-  SaysAll = Says (formOf (e .kind) .x) (e .x) × Says (formOf (e .kind) .y) (e .y) × Says (formOf (e .kind) .z) (e .z)
-
-  each-field : (tests ≡ true) ↔ SaysAll
-  each-field = (λ h. apart h, λ h. together h)
-    where
-      apart : tests ≡ true → SaysAll
-      apart h =
-          let f = formOf (e .kind) in
-          let xy-z = and-true (test (f .x) (e .x) && test (f .y) (e .y)) (test (f .z) (e .z)) h in
-          let x-y = and-true (test (f .x) (e .x)) (test (f .y) (e .y)) (xy-z .0) in
-          (says (f .x) (e .x) .0 (x-y .0), says (f .y) (e .y) .0 (x-y .1), says (f .z) (e .z) .0 (xy-z .1))
-
-      together : SaysAll → tests ≡ true
-      together h =
-          let f = formOf (e .kind) in
-          rw (says (f .x) (e .x) .1 (h .0), says (f .y) (e .y) .1 (h .1), says (f .z) (e .z) .1 (h .2))
-
 module _ (bs : List ℕ) (k : ℕ) where
   node-refers : (v : ℕ) → (isNode (earlierSort bs k v) ≡ true) ↔ EarlierNode bs k v
   node-refers v =
@@ -132,7 +106,7 @@ module _ (bs : List ℕ) (k : ℕ) where
       together (inl e) = rw (eq-eqb v endOfPath e)
       together (inr h) = rw (lt-ltb v k (h .0), h .1) (Bool·or-true (eqb v endOfPath))
 
-  field-refers : (F : Field) (v : ℕ) → (refersBack bs k F v ≡ true) ↔ OfField (EarlierNode bs k) (EarlierPath bs k) F v
+  field-refers : (F : Field) (v : ℕ) → (refersBack bs k F v ≡ true) ↔ OfReference (EarlierNode bs k) (EarlierPath bs k) F v
   field-refers Field.Unused v = (λ h. tt, λ h. refl)
   field-refers Field.Property v = (λ h. tt, λ h. refl)
   field-refers Field.Name v = (λ h. tt, λ h. refl)
@@ -142,7 +116,7 @@ module _ (bs : List ℕ) (k : ℕ) where
   field-refers Field.Path v = path-refers v
 
   entry-passes : entryCheck bs k ≡ passes → Entered bs k
-  unfolding entryCheck fieldsInRange allReferBack
+  unfolding entryCheck
   entry-passes h =
       let e = entryAt bs k in
       let a = then-passes (kindCheck bs k) (fieldCheck bs k then referenceCheck bs k then repeatCheck bs k) h in
@@ -151,18 +125,18 @@ module _ (bs : List ℕ) (k : ℕ) where
       record {
         sorted = sort-known (sortAt bs k) (refusesIf-passes _ 4 k (a .0));
         within = each-field inRange Within field-within e .0 (not-false _ (refusesIf-passes _ 5 k (b .0)));
-        refers = each-field (refersBack bs k) (OfField (EarlierNode bs k) (EarlierPath bs k)) field-refers e .0 (not-false _ (refusesIf-passes _ 6 k (c .0)));
+        refers = each-field (refersBack bs k) (OfReference (EarlierNode bs k) (EarlierPath bs k)) field-refers e .0 (not-false _ (refusesIf-passes _ 6 k (c .0)));
         different = λ j l. none-at (λ i. sameEntry bs i k) k j (refusesIf-passes (repeatsAt bs k) 7 k (c .1)) l;
       }
 
   entry-accepted : Entered bs k → entryCheck bs k ≡ passes
-  unfolding entryCheck fieldsInRange allReferBack
+  unfolding entryCheck
   entry-accepted h =
       let e = entryAt bs k in
       rw (
         known-sort (sortAt bs k) (h .sorted),
         each-field inRange Within field-within e .1 (h .within),
-        each-field (refersBack bs k) (OfField (EarlierNode bs k) (EarlierPath bs k)) field-refers e .1 (h .refers),
+        each-field (refersBack bs k) (OfReference (EarlierNode bs k) (EarlierPath bs k)) field-refers e .1 (h .refers),
         none-below (λ i. sameEntry bs i k) k (h .different),
       )
 

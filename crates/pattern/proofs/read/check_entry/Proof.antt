@@ -49,7 +49,7 @@ all-refer-back-requires c κs = search needs
 
 references-asked : (c : tie.After-all-refer-back) (t : Bool) → c .all-refer-back .result ≡ t
     → let a = c .before .before .before .before .before .before .before .before .args in
-      allReferBack (a .p .now) (a .k) (entryAt (a .p .now) (a .k)) ≡ t
+    allReferBack (a .p .now) (a .k) (entryAt (a .p .now) (a .k)) ≡ t
 references-asked c t h =
     let s = c .before .before .before .before .before .before in
     let a = s .before .before .args in
@@ -60,10 +60,11 @@ unfolding entryCheck
 returns-3 c =
     let r = c .before in
     let f = r .before .before in
-    rw
-    (sort-asked (f .before .before) false (f .before .if1 .left),
-    fields-asked f true (not-false _ (r .before .if2 .left)),
-    references-asked r false (not-true _ (c .if3 .taken)))
+    rw (
+      sort-asked (f .before .before) false (f .before .if1 .left),
+      fields-asked f true (not-false _ (r .before .if2 .left)),
+      references-asked r false (not-true _ (c .if3 .taken)),
+    )
 
 repeats-requires : tie.Need-repeats-requires
 repeats-requires c κs = search needs
@@ -73,22 +74,24 @@ unfolding entryCheck
 returns-4 c =
     let r = c .before .before .before in
     let f = r .before .before in
-    rw
-    (sort-asked (f .before .before) false (f .before .if1 .left),
-    fields-asked f true (not-false _ (r .before .if2 .left)),
-    references-asked r true (not-false _ (c .before .before .if3 .left)),
-    sym (c .before .repeats .ensures) ∙ c .if4 .taken)
+    rw (
+      sort-asked (f .before .before) false (f .before .if1 .left),
+      fields-asked f true (not-false _ (r .before .if2 .left)),
+      references-asked r true (not-false _ (c .before .before .if3 .left)),
+      sym (c .before .repeats .ensures) ∙ c .if4 .taken,
+    )
 
 returns-5 : tie.Need-returns-5
 unfolding entryCheck
 returns-5 c =
     let r = c .before .before .before in
     let f = r .before .before in
-    rw
-    (sort-asked (f .before .before) false (f .before .if1 .left),
-    fields-asked f true (not-false _ (r .before .if2 .left)),
-    references-asked r true (not-false _ (c .before .before .if3 .left)),
-    sym (c .before .repeats .ensures) ∙ c .if4 .left)
+    rw (
+      sort-asked (f .before .before) false (f .before .if1 .left),
+      fields-asked f true (not-false _ (r .before .if2 .left)),
+      references-asked r true (not-false _ (c .before .before .if3 .left)),
+      sym (c .before .repeats .ensures) ∙ c .if4 .left,
+    )
 
 pub check-entry-spec : {M : Type 1} → statement M
 check-entry-spec =

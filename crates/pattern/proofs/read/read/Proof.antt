@@ -52,7 +52,7 @@ enum-told-2 c = search needs
 
 entries-passed : (c : tie.After-enum-told2)
     → let p = c .before .before .before .before .before .before .before .before .args .p .now in
-      eachBelow (countOf p) (entryCheck p) ≡ passes
+    eachBelow (countOf p) (entryCheck p) ≡ passes
 entries-passed c = sym (c .before .before .check-entries .ensures) ∙ ap checkOf (c .enum-told2 .given .1)
 
 sub-sort-at : tie.Need-sub-sort-at
@@ -71,19 +71,21 @@ returns-3 : tie.Need-returns-3
 unfolding rootCheck patternCheck readingOf
 returns-3 c =
     let e = c .before .before .before in
-    rw
-    (header-passed (e .before .before .before .before),
-    entries-passed e,
-    asked isPath (c .before .before .sort-at .ensures) (c .before .is-path .ensures) (c .if1 .taken))
+    rw (
+      header-passed (e .before .before .before .before),
+      entries-passed e,
+      asked isPath (c .before .before .sort-at .ensures) (c .before .is-path .ensures) (c .if1 .taken),
+    )
 
 returns-4 : tie.Need-returns-4
 unfolding rootCheck patternCheck readingOf
 returns-4 c =
     let e = c .before .before .before in
-    rw
-    (header-passed (e .before .before .before .before),
-    entries-passed e,
-    asked isPath (c .before .before .sort-at .ensures) (c .before .is-path .ensures) (c .if1 .left))
+    rw (
+      header-passed (e .before .before .before .before),
+      entries-passed e,
+      asked isPath (c .before .before .sort-at .ensures) (c .before .is-path .ensures) (c .if1 .left),
+    )
 
 pub read-spec : {M : Type 1} → statement M
 read-spec =
