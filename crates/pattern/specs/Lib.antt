@@ -1,17 +1,6 @@
-pub mod Types
-pub mod Syntax
-pub mod Semantics
-pub mod Finite
-pub mod Coincidence
-pub mod Tests
-pub mod Finding
-pub mod Range
-pub mod Table
-pub mod Fields
-pub mod Entries
-pub mod Reading
-pub mod Valid
-pub mod Expression
+-- In the order of reading.
+pub mod Logic
+pub mod Checks
+pub mod File
 pub mod Meaning
-pub mod Names
 pub mod Readings

@@ -3,11 +3,11 @@
 use mathlib.Core.Path.{_≡_, refl}
 use mathlib.Core.List.{List, [], _∷_, _++_}
 use Prim.Native.Nat.{ℕ}
-use Rattle.pattern.specs.Finding.{read, refused}
-use Rattle.pattern.specs.Range.{someBelow, eachBelow}
-use Rattle.pattern.specs.Fields.{eachField}
-use Rattle.pattern.specs.Entries.{sameEntry}
-use Rattle.pattern.specs.Reading.{mark, headerCheck, entryCheck, rootCheck, patternCheck, readingOf}
+use Rattle.pattern.specs.Checks.Finding.{read, refused}
+use Rattle.pattern.specs.Checks.Range.{someBelow, eachBelow}
+use Rattle.pattern.specs.File.Fields.{eachField}
+use Rattle.pattern.specs.File.Entries.{sameEntry}
+use Rattle.pattern.specs.File.Reading.{mark, headerCheck, entryCheck, rootCheck, patternCheck, readingOf}
 
 -- each of the claims
 abbrev pub All : List (Type 0) → Type 0

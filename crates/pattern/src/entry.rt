@@ -3,7 +3,7 @@ use crate::table::Kind;
 ghost use mathlib.Core.Path.{_≡_};
 ghost use Prim.Native.Nat.{_+_, _*_, _≤_};
 ghost use lib.ListN.{length};
-ghost use Rattle.pattern.specs.Entries.{entryAt};
+ghost use Rattle.pattern.specs.File.Entries.{entryAt};
 
 pub struct Entry {
     pub kind: Kind,

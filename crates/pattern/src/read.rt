@@ -15,9 +15,9 @@ use crate::types::PropertyMade;
 ghost use mathlib.Core.Path.{_≡_};
 ghost use Prim.Native.Nat.{_+_, _*_, _≤_};
 ghost use lib.ListN.{length};
-ghost use Rattle.pattern.specs.Range.{eachBelow};
-ghost use Rattle.pattern.specs.Entries.{sameEntry};
-ghost use Rattle.pattern.specs.Reading.{inRange, fieldsInRange, sortAt, earlierSort, refersBack, allReferBack, repeatsAt, headerCheck, entryCheck, readingOf, checkOf, findingOf};
+ghost use Rattle.pattern.specs.Checks.Range.{eachBelow};
+ghost use Rattle.pattern.specs.File.Entries.{sameEntry};
+ghost use Rattle.pattern.specs.File.Reading.{inRange, fieldsInRange, sortAt, earlierSort, refersBack, allReferBack, repeatsAt, headerCheck, entryCheck, readingOf, checkOf, findingOf};
 
 // Document 01's refusals 1 to 8; those that have a place hold the entry's number.
 pub enum PatternRefusal {
@@ -252,8 +252,9 @@ pub fn read(p: &[u8]) -> PatternRead
     if let PatternCheck::Refused(refusal) = check_entries(p, n) {
         return PatternRead::Refused(refusal);
     }
-    if sort_at(p, n - 1).is_path() {
-        return PatternRead::Refused(PatternRefusal::RootPath(n - 1));
+    let root = n - 1;
+    if sort_at(p, root).is_path() {
+        return PatternRead::Refused(PatternRefusal::RootPath(root));
     }
     PatternRead::Read(n)
 }

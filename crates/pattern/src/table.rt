@@ -1,8 +1,11 @@
 // Document 01's table of entries: the kinds, which of them are nodes and which are paths, and what
 // the three fields of each hold.
 ghost use mathlib.Core.Path.{_≡_};
-ghost use Rattle.pattern.specs.Table.{kindOf, sortOf, formOf, isNode, isPath, isNeither};
+ghost use Rattle.pattern.specs.File.Table.{kindOf, sortOf, formOf, isNode, isPath, isNeither};
 
+// Document 01's kinds, in its words. In the words of the sources: `After` is the modal diamond, `Same`
+// and `Differ` are the data comparisons, `Jump` goes to a named node, `Fork` is the union of paths,
+// and each path kind carries the rest of its path.
 pub enum Kind {
     Property,
     Name,
@@ -18,6 +21,8 @@ pub enum Kind {
     Unknown,
 }
 
+// Document 01's sorts of entries: nodes, which hold at a node or not, and paths, which lead from a node
+// to others.
 pub enum Sort {
     Node,
     Path,

@@ -2,8 +2,8 @@
 -- Assumes nothing.
 use borrow.Author.Tests.{not-true, not-false}
 use mathlib.Core.Path.{sym, _∙_}
-use Rattle.pattern.specs.Fields.{x-fails, y-fails, z-decides}
-use Rattle.pattern.specs.Reading.{refersBack}
+use Rattle.pattern.specs.File.Fields.{x-fails, y-fails, z-decides}
+use Rattle.pattern.specs.File.Reading.{refersBack}
 use borrow.Author.Needs.{needs}
 use Rattle.pattern.proofs.read.all_refer_back.Statement.{statement}
 use Rattle.pattern.proofs.read.all_refer_back.Tie as tie

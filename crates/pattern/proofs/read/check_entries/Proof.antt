@@ -6,9 +6,9 @@ use mathlib.Core.Path.{_≡_, sym, ap, _∙_}
 use native.Mathlib.Omega.{arith}
 use lib.ListN.{length}
 use borrow.Author.Count.{below-none, below-more}
-use Rattle.pattern.specs.Finding.{passes}
-use Rattle.pattern.specs.Range.{each-below, each-first}
-use Rattle.pattern.specs.Reading.{entryCheck, checkOf}
+use Rattle.pattern.specs.Checks.Finding.{passes}
+use Rattle.pattern.specs.Checks.Range.{each-below, each-first}
+use Rattle.pattern.specs.File.Reading.{entryCheck, checkOf}
 use Rattle.pattern.proofs.read.check_entries.Statement.{statement}
 use Rattle.pattern.proofs.read.check_entries.Tie as tie
 

@@ -6,9 +6,9 @@ use mathlib.Core.Bool.{Bool, true, false}
 use borrow.Author.Needs.{needs}
 use borrow.Author.Tests.{not-true, not-false}
 use Rattle.pattern.specs.declared.entry.Entry.{Entry}
-use Rattle.pattern.specs.Table.{sortOf, isNeither}
-use Rattle.pattern.specs.Entries.{entryAt}
-use Rattle.pattern.specs.Reading.{sortAt, fieldsInRange, allReferBack, entryCheck}
+use Rattle.pattern.specs.File.Table.{sortOf, isNeither}
+use Rattle.pattern.specs.File.Entries.{entryAt}
+use Rattle.pattern.specs.File.Reading.{sortAt, fieldsInRange, allReferBack, entryCheck}
 use Rattle.pattern.proofs.Asked.{asked}
 use Rattle.pattern.proofs.read.check_entry.Statement.{statement}
 use Rattle.pattern.proofs.read.check_entry.Tie as tie

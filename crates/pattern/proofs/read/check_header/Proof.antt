@@ -9,7 +9,7 @@ use mathlib.Core.Bool.{true, false}
 use lib.ListN.{length}
 use lib.Dec.{ltb, eqb}
 use Rattle.wire.specs.Fields.{beginsWith, wordAt}
-use Rattle.pattern.specs.Reading.{mark, countOf, headerCheck}
+use Rattle.pattern.specs.File.Reading.{mark, countOf, headerCheck}
 use Rattle.pattern.proofs.read.check_header.Statement.{statement}
 use Rattle.pattern.proofs.read.check_header.Tie as tie
 

@@ -1,7 +1,7 @@
 -- `pattern::read::in_range` meets its contract: what each making function answers says whether the value is in its range.
 -- Assumes nothing.
 use mathlib.Core.Path.{sym}
-use Rattle.pattern.specs.Types.{maxProperty, maxName, maxAxis, maxChannel, made-within, out-beyond}
+use Rattle.pattern.specs.File.Types.{maxProperty, maxName, maxAxis, maxChannel, made-within, out-beyond}
 use borrow.Author.Needs.{needs}
 use Rattle.pattern.proofs.read.in_range.Statement.{statement}
 use Rattle.pattern.proofs.read.in_range.Tie as tie

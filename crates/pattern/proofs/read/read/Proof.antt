@@ -5,10 +5,10 @@ use mathlib.Core.Path.{_≡_, sym, ap, _∙_}
 use mathlib.Core.Bool.{Bool, true, false}
 use native.Mathlib.Omega.{arith}
 use borrow.Author.Needs.{needs}
-use Rattle.pattern.specs.Finding.{passes}
-use Rattle.pattern.specs.Range.{eachBelow}
-use Rattle.pattern.specs.Table.{isPath}
-use Rattle.pattern.specs.Reading.{checkOf, countOf, headerCheck, entryCheck, rootCheck, patternCheck, readingOf, Header, header-passes}
+use Rattle.pattern.specs.Checks.Finding.{passes}
+use Rattle.pattern.specs.Checks.Range.{eachBelow}
+use Rattle.pattern.specs.File.Table.{isPath}
+use Rattle.pattern.specs.File.Reading.{checkOf, countOf, headerCheck, entryCheck, rootCheck, patternCheck, readingOf, Header, header-passes}
 use Rattle.pattern.proofs.Asked.{asked}
 use Rattle.pattern.proofs.read.read.Statement.{statement}
 use Rattle.pattern.proofs.read.read.Tie as tie
@@ -55,17 +55,14 @@ entries-passed : (c : tie.After-enum-told2)
     eachBelow (countOf p) (entryCheck p) ≡ passes
 entries-passed c = sym (c .before .before .check-entries .ensures) ∙ ap checkOf (c .enum-told2 .given .1)
 
-sub-sort-at : tie.Need-sub-sort-at
-sub-sort-at c = omega (arith, header-of (c .before .before .before .before))
+sub-root : tie.Need-sub-root
+sub-root c = omega (arith, header-of (c .before .before .before .before))
 
 sort-at-requires : tie.Need-sort-at-requires
 sort-at-requires c κs = omega (arith, header-of (c .before .before .before .before))
 
 is-path-requires : tie.Need-is-path-requires
 is-path-requires c κs = search needs
-
-sub-t11 : tie.Need-sub-t11
-sub-t11 c = omega (arith, header-of (c .before .before .before .before .before .before .before))
 
 returns-3 : tie.Need-returns-3
 unfolding rootCheck patternCheck readingOf
@@ -100,9 +97,8 @@ read-spec =
     enum-known-refusal-2
     returns-2
     enum-told-2
-    sub-sort-at
+    sub-root
     sort-at-requires
     is-path-requires
-    sub-t11
     returns-3
     returns-4)

@@ -5,8 +5,8 @@ use Prim.Native.Nat.{ℕ, _≤_, _<_}
 use mathlib.Core.Path.{_≡_, sym, _∙_}
 use mathlib.Core.Bool.{false}
 use native.Mathlib.Omega.{arith}
-use Rattle.pattern.specs.Range.{none-below, some-at, above-less}
-use Rattle.pattern.specs.Entries.{sameEntry}
+use Rattle.pattern.specs.Checks.Range.{none-below, some-at, above-less}
+use Rattle.pattern.specs.File.Entries.{sameEntry}
 use Rattle.pattern.proofs.read.repeats.Statement.{statement}
 use Rattle.pattern.proofs.read.repeats.Tie as tie
 

@@ -1,7 +1,7 @@
 -- `pattern::read::same_entry` meets its contract: the bytes are compared in their order, and the first that differ decide.
 -- Assumes nothing.
 use borrow.Author.Tests.{eq-eqb, ne-eqb}
-use Rattle.pattern.specs.Entries.{sameEntry}
+use Rattle.pattern.specs.File.Entries.{sameEntry}
 use borrow.Author.Needs.{needs}
 use Rattle.pattern.proofs.read.same_entry.Statement.{statement}
 use Rattle.pattern.proofs.read.same_entry.Tie as tie

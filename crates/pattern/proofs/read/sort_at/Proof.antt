@@ -2,7 +2,7 @@
 -- Assumes nothing.
 use mathlib.Core.Path.{ap, _∙_}
 use Rattle.pattern.specs.declared.entry.Entry.{Entry}
-use Rattle.pattern.specs.Table.{sortOf}
+use Rattle.pattern.specs.File.Table.{sortOf}
 use borrow.Author.Needs.{needs}
 use Rattle.pattern.proofs.read.sort_at.Statement.{statement}
 use Rattle.pattern.proofs.read.sort_at.Tie as tie

@@ -1,7 +1,7 @@
 -- `pattern::table::Kind::of` meets its contract: a number that no arm has is of no kind, `kind-beyond`.
 -- Assumes nothing.
 use mathlib.Core.Path.{sym}
-use Rattle.pattern.specs.Table.{kind-beyond}
+use Rattle.pattern.specs.File.Table.{kind-beyond}
 use borrow.Author.Needs.{needs}
 use Rattle.pattern.proofs.table.Kind.of.Statement.{statement}
 use Rattle.pattern.proofs.table.Kind.of.Tie as tie

@@ -8,8 +8,8 @@ use Rattle.pattern.specs.declared.table.Kind.{Kind}
 use Rattle.pattern.specs.declared.table.Field.{Field}
 use Rattle.pattern.specs.declared.table.Form.{Form}
 use Rattle.pattern.specs.declared.entry.Entry.{Entry}
-use Rattle.pattern.specs.Tests.{and-true}
-use Rattle.pattern.specs.Table.{formOf}
+use Rattle.pattern.specs.Checks.Tests.{and-true}
+use Rattle.pattern.specs.File.Table.{formOf}
 
 -- each field of an entry passes the test, x before y before z
 unfoldable pub eachField : (Field → ℕ → Bool) → Entry → Bool

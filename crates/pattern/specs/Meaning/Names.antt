@@ -11,16 +11,16 @@ use lib.Dec.{eqb}
 use borrow.Author.Tests.{eq-eqb}
 use Rattle.pattern.specs.declared.table.Kind.{Kind}
 use Rattle.pattern.specs.declared.entry.Entry.{Entry}
-use Rattle.pattern.specs.Syntax.{NExp, PExp, truth}
-use Rattle.pattern.specs.Semantics.{Model, Naming, Leads, Holds}
-use Rattle.pattern.specs.Coincidence.{OfNames, OfNamesP, same-holds, same-leads}
-use Rattle.pattern.specs.Range.{someBelow, some-at}
-use Rattle.pattern.specs.Table.{endOfPath}
-use Rattle.pattern.specs.Entries.{entryAt}
-use Rattle.pattern.specs.Reading.{countOf}
-use Rattle.pattern.specs.Fields.{OfReferences, map-references}
-use Rattle.pattern.specs.Valid.{Valid, EarlierNode, EarlierPath}
-use Rattle.pattern.specs.Expression.{end, nodeOf, pathOf, nodeAt, pathAt, node-at, path-at, end-at}
+use Rattle.pattern.specs.Logic.Syntax.{NExp, PExp, truth}
+use Rattle.pattern.specs.Logic.Semantics.{Model, Naming, Leads, Holds}
+use Rattle.pattern.specs.Logic.Coincidence.{OfNames, OfNamesP, same-holds, same-leads}
+use Rattle.pattern.specs.Checks.Range.{someBelow, some-at}
+use Rattle.pattern.specs.File.Table.{endOfPath}
+use Rattle.pattern.specs.File.Entries.{entryAt}
+use Rattle.pattern.specs.File.Reading.{countOf}
+use Rattle.pattern.specs.File.Fields.{OfReferences, map-references}
+use Rattle.pattern.specs.File.Valid.{Valid, EarlierNode, EarlierPath}
+use Rattle.pattern.specs.Meaning.Expression.{end, nodeOf, pathOf, nodeAt, pathAt, node-at, path-at, end-at}
 
 -- an entry of this kind with x for its first field has the name
 abbrev pub hasName : Kind → ℕ → ℕ → Bool

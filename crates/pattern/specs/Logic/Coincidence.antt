@@ -4,8 +4,8 @@
 use mathlib.Core.Path.{_≡_}
 use mathlib.Core.Logic.{_⊎_}
 use Prim.Native.Nat.{ℕ}
-use Rattle.pattern.specs.Syntax.{NExp, PExp}
-use Rattle.pattern.specs.Semantics.{Model, Naming, Compared, Leads, Holds}
+use Rattle.pattern.specs.Logic.Syntax.{NExp, PExp}
+use Rattle.pattern.specs.Logic.Semantics.{Model, Naming, Compared, Leads, Holds}
 
 -- 000: "NOM(ε) denotes the set of nominals appearing in an expression": P holds of each of them
 abbrev mutual

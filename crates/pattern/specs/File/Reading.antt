@@ -15,13 +15,13 @@ use Rattle.pattern.specs.declared.entry.Entry.{Entry}
 use Rattle.pattern.specs.declared.read.PatternRefusal.{PatternRefusal}
 use Rattle.pattern.specs.declared.read.PatternCheck.{PatternCheck}
 use Rattle.pattern.specs.declared.read.PatternRead.{PatternRead}
-use Rattle.pattern.specs.Tests.{or-false}
-use Rattle.pattern.specs.Types.{maxName, maxProperty, maxAxis, maxChannel}
-use Rattle.pattern.specs.Finding.{Finding, read, refused, Check, passes, refuses, refusesIf, _then_, unless, then-passes, refusesIf-passes}
-use Rattle.pattern.specs.Range.{someBelow, eachBelow}
-use Rattle.pattern.specs.Table.{endOfPath, sortOf, isNeither, isNode, isPath}
-use Rattle.pattern.specs.Fields.{eachField}
-use Rattle.pattern.specs.Entries.{entryAt, sameEntry}
+use Rattle.pattern.specs.Checks.Tests.{or-false}
+use Rattle.pattern.specs.File.Types.{maxName, maxProperty, maxAxis, maxChannel}
+use Rattle.pattern.specs.Checks.Finding.{Finding, read, refused, Check, passes, refuses, refusesIf, _then_, unless, then-passes, refusesIf-passes}
+use Rattle.pattern.specs.Checks.Range.{someBelow, eachBelow}
+use Rattle.pattern.specs.File.Table.{endOfPath, sortOf, isNeither, isNode, isPath}
+use Rattle.pattern.specs.File.Fields.{eachField}
+use Rattle.pattern.specs.File.Entries.{entryAt, sameEntry}
 
 -- the mark `PAT`
 abbrev pub mark : List ℕ

@@ -6,7 +6,7 @@ use Prim.Native.Nat.{ℕ, _+_, _*_}
 use lib.ListN.{getD}
 use lib.Dec.{eqb}
 use Rattle.pattern.specs.declared.entry.Entry.{Entry}
-use Rattle.pattern.specs.Table.{kindOf}
+use Rattle.pattern.specs.File.Table.{kindOf}
 
 -- "then n entries of four bytes: kind, x, y, z", after the first six: where entry k stands
 abbrev pub place : ℕ → ℕ

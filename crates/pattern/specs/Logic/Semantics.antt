@@ -4,7 +4,7 @@ use mathlib.Core.Path.{_≡_}
 use mathlib.Core.Logic.{_⊎_}
 use Prim.Native.Nat.{ℕ}
 use Rattle.pattern.specs.declared.types.Comparison.{Comparison}
-use Rattle.pattern.specs.Syntax.{NExp, PExp}
+use Rattle.pattern.specs.Logic.Syntax.{NExp, PExp}
 
 -- 000, definition 1: an abstract hybrid data model ⟨M, ∼, →, label, nom⟩, here with an equivalence relation ∼ for each channel and an
 -- accessibility relation → for each axis. M is any type, finite or not. nom stands beside the model, as an argument of its own, since the
@@ -21,7 +21,7 @@ pub record Model : Type 1 where
 abbrev pub Naming : Model → Type 0
 Naming M = ℕ → M .Node
 
--- y ∼ z, or y ≁ z, on a channel
+-- y ∼ z on a channel, for ⟨α = β⟩; y ≁ z, for ⟨α ≠ β⟩
 abbrev pub Compared : (M : Model) → Comparison → ℕ → M .Node → M .Node → Type 0
 Compared M Comparison.Same e y z = M .alike e y z
 Compared M Comparison.Differ e y z = M .alike e y z → ⊥
@@ -51,7 +51,7 @@ abbrev mutual
   Holds M nom (NExp.not φ) x = Holds M nom φ x → ⊥
   -- M, x ⊨ φ ∧ ψ iff M, x ⊨ φ and M, x ⊨ ψ
   Holds M nom (NExp.both φ ψ) x = Holds M nom φ x × Holds M nom ψ x
-  -- 002's diamond, 01's after: some successor has φ
+  -- 002, definition 2.3: M, x ⊨ ⟨a⟩φ iff there is some y s.t. x → y on a and M, y ⊨ φ
   Holds M nom (NExp.after a φ) x = (y : M .Node) × (M .edge a x y × Holds M nom φ y)
   -- M, x ⊨ ⟨α = β⟩ iff there are y, z ∈ M s.t. M, x, y ⊨ α, M, x, z ⊨ β and y ∼ z; ⟨α ≠ β⟩ likewise with y ≁ z
   Holds M nom (NExp.compare c e α β) x =

@@ -12,11 +12,11 @@ use lib.Dec.{eqb}
 use Rattle.pattern.specs.declared.types.Comparison.{Comparison}
 use Rattle.pattern.specs.declared.table.Kind.{Kind}
 use Rattle.pattern.specs.declared.entry.Entry.{Entry}
-use Rattle.pattern.specs.Syntax.{NExp, PExp, truth}
-use Rattle.pattern.specs.Table.{endOfPath}
-use Rattle.pattern.specs.Entries.{entryAt}
-use Rattle.pattern.specs.Fields.{OfReferences, map-references}
-use Rattle.pattern.specs.Valid.{Valid, EarlierNode, EarlierPath}
+use Rattle.pattern.specs.Logic.Syntax.{NExp, PExp, truth}
+use Rattle.pattern.specs.File.Table.{endOfPath}
+use Rattle.pattern.specs.File.Entries.{entryAt}
+use Rattle.pattern.specs.File.Fields.{OfReferences, map-references}
+use Rattle.pattern.specs.File.Valid.{Valid, EarlierNode, EarlierPath}
 
 -- End of path. 000 has no empty path; [⊤], which leads from each node to itself alone, stands for it.
 abbrev pub end : PExp

@@ -6,8 +6,8 @@ use mathlib.Core.Logic.{_⊎_, inl, inr}
 use Prim.Native.Nat.{ℕ, zero, suc, _-_, _≤_, _<_}
 use native.Mathlib.Omega.{arith}
 use native.Mathlib.Nat.{not-suc-le-zero, le-of-suc-le-suc, eq-or-lt-of-le, lt-trans, lt-suc-self}
-use Rattle.pattern.specs.Tests.{or-false}
-use Rattle.pattern.specs.Finding.{Check, passes, refuses, _then_, then-passes}
+use Rattle.pattern.specs.Checks.Tests.{or-false}
+use Rattle.pattern.specs.Checks.Finding.{Check, passes, refuses, _then_, then-passes}
 
 -- some number below n passes the test
 unfoldable pub someBelow : ℕ → (ℕ → Bool) → Bool

@@ -14,14 +14,14 @@ use Rattle.pattern.specs.declared.table.Sort.{Sort}
 use Rattle.pattern.specs.declared.table.Field.{Field}
 use Rattle.pattern.specs.declared.table.Form.{Form}
 use Rattle.pattern.specs.declared.entry.Entry.{Entry}
-use Rattle.pattern.specs.Tests.{or-true, and-true}
-use Rattle.pattern.specs.Types.{maxName, maxProperty, maxAxis, maxChannel}
-use Rattle.pattern.specs.Finding.{Finding, read, Check, passes, refuses, refusesIf, _then_, unless, then-passes, refusesIf-passes}
-use Rattle.pattern.specs.Range.{eachBelow, each-at, each-below, none-at, none-below}
-use Rattle.pattern.specs.Table.{endOfPath, formOf, isNode, isPath, isNeither}
-use Rattle.pattern.specs.Entries.{entryAt, sameEntry}
-use Rattle.pattern.specs.Reading.{countOf, inRange, fieldsInRange, sortIf, sortAt, earlierSort, refersBack, allReferBack, repeatsAt, headerCheck, kindCheck, fieldCheck, referenceCheck, repeatCheck, entryCheck, rootCheck, patternCheck, readingOf, Header, header-passes, header-accepted}
-use Rattle.pattern.specs.Fields.{OfFields, OfReference, OfReferences, each-field}
+use Rattle.pattern.specs.Checks.Tests.{or-true, and-true}
+use Rattle.pattern.specs.File.Types.{maxName, maxProperty, maxAxis, maxChannel}
+use Rattle.pattern.specs.Checks.Finding.{Finding, read, Check, passes, refuses, refusesIf, _then_, unless, then-passes, refusesIf-passes}
+use Rattle.pattern.specs.Checks.Range.{eachBelow, each-at, each-below, none-at, none-below}
+use Rattle.pattern.specs.File.Table.{endOfPath, formOf, isNode, isPath, isNeither}
+use Rattle.pattern.specs.File.Entries.{entryAt, sameEntry}
+use Rattle.pattern.specs.File.Reading.{countOf, inRange, fieldsInRange, sortIf, sortAt, earlierSort, refersBack, allReferBack, repeatsAt, headerCheck, kindCheck, fieldCheck, referenceCheck, repeatCheck, entryCheck, rootCheck, patternCheck, readingOf, Header, header-passes, header-accepted}
+use Rattle.pattern.specs.File.Fields.{OfFields, OfReference, OfReferences, each-field}
 
 -- a field's value is in the range of what the field holds
 abbrev pub Within : Field → ℕ → Type 0

@@ -3,7 +3,7 @@
 use mathlib.Core.Path.{_≡_, refl, sym, _∙_}
 use mathlib.Core.Bool.{Bool, true}
 use Prim.Native.Nat.{ℕ, _<_}
-use Rattle.pattern.specs.Semantics.{Model, Naming}
+use Rattle.pattern.specs.Logic.Semantics.{Model, Naming}
 
 -- 01: "A data model has one or more nodes, edges per axis, a property set and four data values per node, and a node for every name. Data
 -- values are whole numbers without an upper bound; a model is finite if its nodes are finitely many."

@@ -1,0 +1,5 @@
+-- The published logic: what expressions are, what they mean in a data model, 01's finite data models, and coincidence.
+pub mod Syntax
+pub mod Semantics
+pub mod Finite
+pub mod Coincidence
