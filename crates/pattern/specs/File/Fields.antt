@@ -1,10 +1,9 @@
 -- The fields of an entry, by the table: a test of each field, and what holds of the entries that it refers to.
 -- Assumes nothing.
-use mathlib.Core.Path.{_≡_, refl, ap}
+use mathlib.Core.Path.{_≡_}
 use mathlib.Core.Bool.{Bool, true, false, _&&_}
 use mathlib.Core.Logic.{_↔_}
 use Prim.Native.Nat.{ℕ}
-use Rattle.pattern.specs.declared.table.Kind.{Kind}
 use Rattle.pattern.specs.declared.table.Field.{Field}
 use Rattle.pattern.specs.declared.table.Form.{Form}
 use Rattle.pattern.specs.declared.entry.Entry.{Entry}

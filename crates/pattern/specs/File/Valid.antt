@@ -1,26 +1,22 @@
 -- A valid pattern file, put declaratively: it is what reading accepts, and what later work knows of a pattern that was read.
 -- Assumes nothing.
 use mathlib.Core.Path.{_≡_, refl, sym, _∙_, ap, subst}
-use mathlib.Core.Bool.{Bool, true, false, not, _&&_, _||_, or-true as Bool·or-true}
+use mathlib.Core.Bool.{Bool, true, false, _||_, or-true as Bool·or-true}
 use mathlib.Core.Logic.{_⊎_, inl, inr, _↔_}
 use mathlib.Core.List.{List}
-use Prim.Native.Nat.{ℕ, _+_, _-_, _*_, _≤_, _<_}
+use Prim.Native.Nat.{ℕ, _-_, _≤_, _<_}
 use native.Mathlib.Omega.{arith}
-use lib.ListN.{length}
-use lib.Dec.{ltb, leb, eqb}
+use lib.Dec.{ltb, eqb}
 use borrow.Author.Tests.{ltb-true, leb-true, eqb-true, not-false, lt-ltb, le-leb, eq-eqb}
-use Rattle.pattern.specs.declared.table.Kind.{Kind}
 use Rattle.pattern.specs.declared.table.Sort.{Sort}
 use Rattle.pattern.specs.declared.table.Field.{Field}
-use Rattle.pattern.specs.declared.table.Form.{Form}
-use Rattle.pattern.specs.declared.entry.Entry.{Entry}
-use Rattle.pattern.specs.Checks.Tests.{or-true, and-true}
+use Rattle.pattern.specs.Checks.Tests.{or-true}
 use Rattle.pattern.specs.File.Types.{maxName, maxProperty, maxAxis, maxChannel}
-use Rattle.pattern.specs.Checks.Finding.{Finding, read, Check, passes, refuses, refusesIf, _then_, unless, then-passes, refusesIf-passes}
+use Rattle.pattern.specs.Checks.Finding.{Finding, read, Check, passes, refuses, _then_, unless, then-passes, refusesIf-passes}
 use Rattle.pattern.specs.Checks.Range.{eachBelow, each-at, each-below, none-at, none-below}
-use Rattle.pattern.specs.File.Table.{endOfPath, formOf, isNode, isPath, isNeither}
+use Rattle.pattern.specs.File.Table.{endOfPath, isNode, isPath, isNeither}
 use Rattle.pattern.specs.File.Entries.{entryAt, sameEntry}
-use Rattle.pattern.specs.File.Reading.{countOf, inRange, fieldsInRange, sortIf, sortAt, earlierSort, refersBack, allReferBack, repeatsAt, headerCheck, kindCheck, fieldCheck, referenceCheck, repeatCheck, entryCheck, rootCheck, patternCheck, readingOf, Header, header-passes, header-accepted}
+use Rattle.pattern.specs.File.Reading.{countOf, inRange, sortIf, sortAt, earlierSort, refersBack, repeatsAt, headerCheck, kindCheck, fieldCheck, referenceCheck, repeatCheck, entryCheck, rootCheck, patternCheck, readingOf, Header, header-passes, header-accepted}
 use Rattle.pattern.specs.File.Fields.{OfFields, OfReference, OfReferences, each-field}
 
 -- a field's value is in the range of what the field holds

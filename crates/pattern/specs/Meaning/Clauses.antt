@@ -4,19 +4,18 @@
 use mathlib.Core.Path.{_≡_, refl, sym, subst}
 use mathlib.Core.Logic.{_⊎_, inl, inr, _↔_, Iff·rfl, Iff·symm, Iff·trans}
 use mathlib.Core.List.{List}
-use Prim.Native.Nat.{ℕ, zero, suc, _<_, _≤_}
+use Prim.Native.Nat.{ℕ, zero, suc, _<_}
 use native.Mathlib.Nat.{not-suc-le-zero, lt-suc-self}
 use native.Mathlib.Omega.{arith}
 use Rattle.pattern.specs.declared.table.Kind.{Kind}
 use Rattle.pattern.specs.declared.table.Sort.{Sort}
-use Rattle.pattern.specs.declared.entry.Entry.{Entry}
 use Rattle.pattern.specs.Logic.Syntax.{NExp, PExp, truth}
 use Rattle.pattern.specs.Logic.Semantics.{Model, Naming, Leads, Holds}
 use Rattle.pattern.specs.File.Table.{endOfPath, sortOf, path-no-node, neither-no-node, neither-no-path}
 use Rattle.pattern.specs.File.Entries.{entryAt}
 use Rattle.pattern.specs.File.Reading.{sortAt}
 use Rattle.pattern.specs.File.Fields.{OfReferences, map-references}
-use Rattle.pattern.specs.File.Valid.{Valid, EarlierNode, EarlierPath}
+use Rattle.pattern.specs.File.Valid.{Valid, EarlierPath}
 use Rattle.pattern.specs.Meaning.Expression.{end, nodeOf, pathOf, nodeAt, pathAt, node-at, path-at, end-at}
 
 module _ (M : Model) (nom : Naming M) where

@@ -1,17 +1,16 @@
 -- The expression of source 000 that an entry of a pattern stands for.
 -- Assumes nothing.
-use mathlib.Core.Path.{_≡_, refl, sym, _∙_, ap, ap₂}
+use mathlib.Core.Path.{_≡_, refl, _∙_, ap, ap₂}
 use mathlib.Core.Bool.{Bool, true, false}
-use mathlib.Core.Logic.{_⊎_, inl, inr}
+use mathlib.Core.Logic.{inl, inr}
 use mathlib.Core.List.{List}
 use Prim.Native.Nat.{ℕ, zero, suc, _<_}
-use native.Mathlib.Nat.{not-suc-le-zero, le-of-suc-le-suc, lt-of-lt-of-le, lt-trans, lt-suc-self}
+use native.Mathlib.Nat.{not-suc-le-zero}
 use native.Mathlib.Omega.{arith}
 use borrow.Author.Tests.{eq-eqb, ne-eqb}
 use lib.Dec.{eqb}
 use Rattle.pattern.specs.declared.types.Comparison.{Comparison}
 use Rattle.pattern.specs.declared.table.Kind.{Kind}
-use Rattle.pattern.specs.declared.entry.Entry.{Entry}
 use Rattle.pattern.specs.Logic.Syntax.{NExp, PExp, truth}
 use Rattle.pattern.specs.File.Table.{endOfPath}
 use Rattle.pattern.specs.File.Entries.{entryAt}

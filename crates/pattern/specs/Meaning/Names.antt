@@ -2,25 +2,23 @@
 -- Assumes nothing.
 use mathlib.Core.Path.{_≡_, refl, sym, subst}
 use mathlib.Core.Bool.{Bool, true, false}
-use mathlib.Core.Logic.{_⊎_, inl, inr}
+use mathlib.Core.Logic.{inl, inr}
 use mathlib.Core.List.{List}
-use Prim.Native.Nat.{ℕ, zero, suc, _<_, _≤_}
+use Prim.Native.Nat.{ℕ, zero, suc, _<_}
 use native.Mathlib.Nat.{not-suc-le-zero, lt-suc-self}
 use native.Mathlib.Omega.{arith}
 use lib.Dec.{eqb}
 use borrow.Author.Tests.{eq-eqb}
 use Rattle.pattern.specs.declared.table.Kind.{Kind}
-use Rattle.pattern.specs.declared.entry.Entry.{Entry}
-use Rattle.pattern.specs.Logic.Syntax.{NExp, PExp, truth}
+use Rattle.pattern.specs.Logic.Syntax.{NExp, PExp}
 use Rattle.pattern.specs.Logic.Semantics.{Model, Naming, Leads, Holds}
 use Rattle.pattern.specs.Logic.Coincidence.{OfNames, OfNamesP, same-holds, same-leads}
 use Rattle.pattern.specs.Checks.Range.{someBelow, some-at}
-use Rattle.pattern.specs.File.Table.{endOfPath}
 use Rattle.pattern.specs.File.Entries.{entryAt}
 use Rattle.pattern.specs.File.Reading.{countOf}
 use Rattle.pattern.specs.File.Fields.{OfReferences, map-references}
-use Rattle.pattern.specs.File.Valid.{Valid, EarlierNode, EarlierPath}
-use Rattle.pattern.specs.Meaning.Expression.{end, nodeOf, pathOf, nodeAt, pathAt, node-at, path-at, end-at}
+use Rattle.pattern.specs.File.Valid.{Valid, EarlierPath}
+use Rattle.pattern.specs.Meaning.Expression.{nodeOf, pathOf, nodeAt, pathAt, node-at, path-at, end-at}
 
 -- an entry of this kind with x for its first field has the name
 abbrev pub hasName : Kind → ℕ → ℕ → Bool
