@@ -4,7 +4,7 @@ use mathlib.Core.Path.{_≡_, refl, _∙_, ap, ap₂}
 use mathlib.Core.Bool.{Bool, true, false}
 use mathlib.Core.Logic.{inl, inr}
 use mathlib.Core.List.{List}
-use Prim.Native.Nat.{ℕ, zero, suc, _<_}
+use Prim.Native.Nat.{ℕ, zero, suc, _-_, _<_}
 use native.Mathlib.Nat.{not-suc-le-zero}
 use native.Mathlib.Omega.{arith}
 use borrow.Author.Tests.{eq-eqb, ne-eqb}
@@ -15,6 +15,7 @@ use Rattle.pattern.specs.Logic.Syntax.{NExp, PExp, truth}
 use Rattle.pattern.specs.File.Table.{endOfPath}
 use Rattle.pattern.specs.File.Entries.{entryAt}
 use Rattle.pattern.specs.File.Fields.{OfReferences, map-references}
+use Rattle.pattern.specs.File.Reading.{countOf}
 use Rattle.pattern.specs.File.Valid.{Valid, EarlierNode, EarlierPath}
 
 -- End of path. 000 has no empty path; [⊤], which leads from each node to itself alone, stands for it.
@@ -77,6 +78,10 @@ nodeAt bs k = nodeWithin bs (suc k) k
 -- The path expression of a reference: the end of path, or that of entry v.
 unfoldable pub pathAt : List ℕ → ℕ → PExp
 pathAt bs v = orEnd (eqb v endOfPath) (pathWithin bs (suc v) v)
+
+-- "Entries number from 0; the last is the root."
+abbrev pub rootOf : List ℕ → NExp
+rootOf bs = nodeAt bs (countOf bs - 1)
 
 module _ (N N′ : ℕ → NExp) (P P′ : ℕ → PExp) (x y z : ℕ) where
   -- an expression is made of those of its references alone
