@@ -1,23 +1,33 @@
 -- A valid pattern file, put declaratively: it is what reading accepts, and what later work knows of a pattern that was read.
 -- Assumes nothing.
 use mathlib.Core.Path.{_≡_, refl, sym, _∙_, ap, subst}
-use mathlib.Core.Bool.{Bool, true, false, _||_, or-true as Bool·or-true}
+use mathlib.Core.Bool.{Bool, true, false, not, _||_, or-true as Bool·or-true}
 use mathlib.Core.Logic.{_⊎_, inl, inr, _↔_}
 use mathlib.Core.List.{List}
-use Prim.Native.Nat.{ℕ, _-_, _≤_, _<_}
+use Prim.Native.Nat.{ℕ, _+_, _-_, _*_, _≤_, _<_}
 use native.Mathlib.Omega.{arith}
+use lib.ListN.{length}
 use lib.Dec.{ltb, eqb}
-use borrow.Author.Tests.{ltb-true, leb-true, eqb-true, not-false, lt-ltb, le-leb, eq-eqb}
+use borrow.Author.Tests.{eqb-false, ltb-false, ne-eqb, le-ltb, ltb-true, leb-true, eqb-true, not-false, lt-ltb, le-leb, eq-eqb}
+use Rattle.wire.specs.Fields.{beginsWith, wordAt}
 use Rattle.pattern.specs.declared.table.Sort.{Sort}
 use Rattle.pattern.specs.declared.table.Field.{Field}
-use Rattle.pattern.specs.Checks.Tests.{or-true}
+use Rattle.pattern.specs.Checks.Tests.{or-false, or-true}
 use Rattle.pattern.specs.File.Types.{maxName, maxProperty, maxAxis, maxChannel}
 use Rattle.pattern.specs.Checks.Finding.{Finding, read, Check, passes, refuses, _then_, unless, then-passes, refusesIf-passes}
 use Rattle.pattern.specs.Checks.Range.{eachBelow, each-at, each-below, none-at, none-below}
 use Rattle.pattern.specs.File.Table.{endOfPath, isNode, isPath, isNeither}
 use Rattle.pattern.specs.File.Entries.{entryAt, sameEntry}
-use Rattle.pattern.specs.File.Reading.{countOf, inRange, sortIf, sortAt, earlierSort, refersBack, repeatsAt, headerCheck, kindCheck, fieldCheck, referenceCheck, repeatCheck, entryCheck, rootCheck, patternCheck, readingOf, Header, header-passes, header-accepted}
+use Rattle.pattern.specs.File.Reading.{mark, countOf, inRange, sortIf, sortAt, earlierSort, refersBack, repeatsAt, headerCheck, kindCheck, fieldCheck, referenceCheck, repeatCheck, entryCheck, rootCheck, patternCheck, readingOf, markCheck, versionCheck, countCheck}
 use Rattle.pattern.specs.File.Fields.{OfFields, OfReference, OfReferences, each-field}
+
+-- a header that meets the checks 1 to 3
+pub record Header (bs : List ℕ) : Type 0 where
+  pub marked : beginsWith mark bs ≡ true
+  pub version-one : wordAt bs 3 ≡ 1
+  pub some-entry : 0 < countOf bs
+  pub one-byte : countOf bs ≤ 255
+  pub length-is : length bs ≡ 6 + 4 * countOf bs
 
 -- a field's value is in the range of what the field holds
 abbrev pub Within : Field → ℕ → Type 0
@@ -52,6 +62,37 @@ pub record Valid (bs : List ℕ) (n : ℕ) : Type 0 where
   pub root-node : sortAt bs (n - 1) ≡ Sort.Node
 
 -- ---- each test of reading, and what it says
+pub header-passes : (bs : List ℕ) → headerCheck bs ≡ passes → Header bs
+unfolding headerCheck
+header-passes bs h =
+    let a = then-passes (markCheck bs) (versionCheck bs then countCheck bs) h in
+    let b = then-passes (versionCheck bs) (countCheck bs) (a .1) in
+    let marks = or-false (ltb (length bs) 6) (not (beginsWith mark bs)) (refusesIf-passes _ 1 0 (a .0)) in
+    let n = countOf bs in
+    let long = not (eqb (length bs) (6 + 4 * n)) in
+    let counts = or-false (eqb n 0) (ltb 255 n || long) (refusesIf-passes _ 3 0 (b .1)) in
+    let sizes = or-false (ltb 255 n) long (counts .1) in
+    record {
+      marked = not-false _ (marks .1);
+      version-one = eqb-true _ _ (not-false _ (refusesIf-passes _ 2 0 (b .0)));
+      some-entry = let not-zero = eqb-false n 0 (counts .0) in omega arith;
+      one-byte = ltb-false 255 n (sizes .0);
+      length-is = eqb-true _ _ (not-false _ (sizes .1));
+    }
+
+pub header-accepted : (bs : List ℕ) → Header bs → headerCheck bs ≡ passes
+unfolding headerCheck
+header-accepted bs h =
+    let long : 6 ≤ length bs = omega (arith, h .length-is) in
+    rw (
+      le-ltb (length bs) 6 long,
+      h .marked,
+      eq-eqb _ _ (h .version-one),
+      ne-eqb (countOf bs) 0 (λ e. omega (arith, h .some-entry)),
+      le-ltb 255 (countOf bs) (h .one-byte),
+      eq-eqb _ _ (h .length-is),
+    )
+
 sort-known : (s : Sort) → isNeither s ≡ false → (s ≡ Sort.Node) ⊎ (s ≡ Sort.Path)
 sort-known Sort.Node h = inl refl
 sort-known Sort.Path h = inr refl

@@ -4,9 +4,10 @@ use mathlib.Core.Path.{_≡_, refl, sym, subst}
 use mathlib.Core.Bool.{Bool, true, false}
 use mathlib.Core.Logic.{inl, inr}
 use mathlib.Core.List.{List}
-use Prim.Native.Nat.{ℕ, zero, suc, _<_}
-use native.Mathlib.Nat.{not-suc-le-zero, lt-suc-self}
-use native.Mathlib.Omega.{arith}
+use mathlib.Core.WellFounded.{WellFounded·induction}
+use Prim.Native.Nat.{ℕ, _<_}
+use native.Mathlib.Nat.{lt-trans}
+use lib.WfN.{Nat·lt-wfRel}
 use lib.Dec.{eqb}
 use borrow.Author.Tests.{eq-eqb}
 use Rattle.pattern.specs.declared.table.Kind.{Kind}
@@ -80,27 +81,27 @@ module _ {bs : List ℕ} {n : ℕ} (ok : Valid bs n) (Q : ℕ → Type 0) (used 
   unfolding usesName
   own-names k l i h = used i (some-at (entryUses bs i) (countOf bs) k (rw (ok .count-is) l) h)
 
-  names-below : (d k : ℕ) → k < d → k < n → OfNames Q (nodeAt bs k) × OfNamesP Q (pathAt bs k)
-  names-below zero k h l = absurd (not-suc-le-zero h)
-  names-below (suc d) k h l =
-      let e = entryAt bs k in
-      let r = references k l (λ v g. names-below d v (omega arith) (omega arith)) in (
-        subst (OfNames Q) (sym (node-at ok k l)) (node-names Q (nodeAt bs) (pathAt bs) (e .x) (e .y) (e .z) (e .kind) (own-names k l) r),
-        subst (OfNamesP Q) (sym (path-at ok k l))
-            (path-names Q (nodeAt bs) (pathAt bs) (e .x) (e .y) (e .z) (e .kind) (own-names k l) r),
-      )
+  references : (k : ℕ) → k < n → ((v : ℕ) → v < k → OfNames Q (nodeAt bs v) × OfNamesP Q (pathAt bs v))
+      → OfReferences (λ v. OfNames Q (nodeAt bs v)) (λ v. OfNamesP Q (pathAt bs v)) (entryAt bs k)
+  references k l below = map-references (λ v g. below v (g .0) .0) path (entryAt bs k) (ok .entered k l .refers)
     where
-      references : (k : ℕ) → k < n → ((v : ℕ) → v < k → OfNames Q (nodeAt bs v) × OfNamesP Q (pathAt bs v))
-          → OfReferences (λ v. OfNames Q (nodeAt bs v)) (λ v. OfNamesP Q (pathAt bs v)) (entryAt bs k)
-      references k l below = map-references (λ v g. below v (g .0) .0) path (entryAt bs k) (ok .entered k l .refers)
-        where
-          path : (v : ℕ) → EarlierPath bs k v → OfNamesP Q (pathAt bs v)
-          path v (inl e) = subst (λ (i : ℕ). OfNamesP Q (pathAt bs i)) (sym e) (subst (OfNamesP Q) (sym (end-at bs)) (tt, tt))
-          path v (inr g) = below v (g .0) .1
+      path : (v : ℕ) → EarlierPath bs k v → OfNamesP Q (pathAt bs v)
+      path v (inl e) = subst (λ (i : ℕ). OfNamesP Q (pathAt bs i)) (sym e) (subst (OfNamesP Q) (sym (end-at bs)) (tt, tt))
+      path v (inr g) = below v (g .0) .1
 
   -- what holds of every name that the pattern uses holds of every name in the expression of an entry
   pub names-at : (k : ℕ) → k < n → OfNames Q (nodeAt bs k) × OfNamesP Q (pathAt bs k)
-  names-at k l = names-below (suc k) k (lt-suc-self k) l
+  names-at k = WellFounded·induction (Nat·lt-wfRel .wf) {C = λ i. i < n → OfNames Q (nodeAt bs i) × OfNamesP Q (pathAt bs i)} k step
+    where
+      step : (k : ℕ) → ((v : ℕ) → v < k → v < n → OfNames Q (nodeAt bs v) × OfNamesP Q (pathAt bs v)) → k < n
+          → OfNames Q (nodeAt bs k) × OfNamesP Q (pathAt bs k)
+      step k below l =
+          let e = entryAt bs k in
+          let r = references k l (λ v g. below v g (lt-trans g l)) in (
+            subst (OfNames Q) (sym (node-at ok k l)) (node-names Q (nodeAt bs) (pathAt bs) (e .x) (e .y) (e .z) (e .kind) (own-names k l) r),
+            subst (OfNamesP Q) (sym (path-at ok k l))
+                (path-names Q (nodeAt bs) (pathAt bs) (e .x) (e .y) (e .z) (e .kind) (own-names k l) r),
+          )
 
 -- coincidence for a pattern: namings that agree on the names that it uses give its entries the same meaning
 module _ {bs : List ℕ} {n : ℕ} (ok : Valid bs n) (M : Model) (g h : Naming M)

@@ -7,7 +7,8 @@ use borrow.Author.Needs.{needs}
 use Rattle.pattern.specs.Checks.Finding.{passes}
 use Rattle.pattern.specs.Checks.Range.{eachBelow}
 use Rattle.pattern.specs.File.Table.{isPath}
-use Rattle.pattern.specs.File.Reading.{checkOf, countOf, headerCheck, entryCheck, rootCheck, patternCheck, readingOf, Header, header-passes}
+use Rattle.pattern.specs.File.Reading.{checkOf, countOf, headerCheck, entryCheck, rootCheck, patternCheck, readingOf}
+use Rattle.pattern.specs.File.Valid.{Header, header-passes}
 use Rattle.pattern.proofs.Asked.{asked}
 use Rattle.pattern.proofs.read.read.Statement.{statement}
 use Rattle.pattern.proofs.read.read.Tie as tie
