@@ -3,10 +3,10 @@
 use mathlib.Core.Path.{_≡_, refl}
 use mathlib.Core.List.{List, [], _∷_, _++_}
 use Prim.Native.Nat.{ℕ}
-use Rattle.pattern.specs.Checks.Finding.{read, refused}
+use Rattle.pattern.specs.Checks.Finding.{found, refused}
 use Rattle.pattern.specs.Checks.Range.{someBelow, eachBelow}
 use Rattle.pattern.specs.File.Fields.{eachField}
-use Rattle.pattern.specs.File.Entries.{sameEntry}
+use Rattle.pattern.specs.File.Entries.{sameBytes}
 use Rattle.pattern.specs.File.Reading.{mark, headerCheck, entryCheck, rootCheck, patternCheck, readingOf}
 
 -- each of the claims
@@ -30,13 +30,13 @@ F = readingOf (patternFile 1 (3 ∷ 0 ∷ 0 ∷ 0 ∷ [])) ≡ refused 6 0
 abbrev pub J : Type 0
 J =
     (readingOf (patternFile 1 (2 ∷ 128 ∷ 0 ∷ 0 ∷ [])) ≡ refused 5 0)
-    × (readingOf (patternFile 1 (2 ∷ 127 ∷ 0 ∷ 0 ∷ [])) ≡ read 1)
+    × (readingOf (patternFile 1 (2 ∷ 127 ∷ 0 ∷ 0 ∷ [])) ≡ found 1)
     × (readingOf (patternFile 2 (9 ∷ 128 ∷ 255 ∷ 0 ∷ 6 ∷ 0 ∷ 0 ∷ 0 ∷ [])) ≡ refused 5 0)
-    × (readingOf (patternFile 2 (9 ∷ 127 ∷ 255 ∷ 0 ∷ 6 ∷ 0 ∷ 0 ∷ 0 ∷ [])) ≡ read 2)
+    × (readingOf (patternFile 2 (9 ∷ 127 ∷ 255 ∷ 0 ∷ 6 ∷ 0 ∷ 0 ∷ 0 ∷ [])) ≡ found 2)
 
 abbrev pub readings : List (Type 0)
 readings = E ∷ F ∷ J ∷ []
 
 pub readings-hold : All readings
-unfolding readingOf patternCheck headerCheck entryCheck rootCheck eachField someBelow eachBelow sameEntry
+unfolding readingOf patternCheck headerCheck entryCheck rootCheck eachField someBelow eachBelow sameBytes
 readings-hold = (refl, (refl, ((refl, refl, refl, refl), tt)))

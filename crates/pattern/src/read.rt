@@ -16,7 +16,7 @@ ghost use mathlib.Core.Path.{_≡_};
 ghost use Prim.Native.Nat.{_+_, _*_, _≤_};
 ghost use lib.ListN.{length};
 ghost use Rattle.pattern.specs.Checks.Range.{eachBelow};
-ghost use Rattle.pattern.specs.File.Entries.{sameEntry};
+ghost use Rattle.pattern.specs.File.Entries.{sameBytes};
 ghost use Rattle.pattern.specs.File.Reading.{inRange, fieldsInRange, sortAt, earlierSort, refersBack, allReferBack, repeatsAt, headerCheck, entryCheck, readingOf, checkOf, findingOf};
 
 // Document 01's refusals 1 to 8; those that have a place hold the entry's number.
@@ -150,7 +150,7 @@ fn all_refer_back(p: &[u8], k: u8, e: Entry) -> bool
 fn same_entry(p: &[u8], j: u8, k: u8) -> bool
     requires { ⌜ 10 + 4 * j ≤ length (now p) ⌝ }
     requires { ⌜ 10 + 4 * k ≤ length (now p) ⌝ }
-    ensures { λ r. ⌜ r ≡ sameEntry (now (p .entry)) j k ⌝ }
+    ensures { λ r. ⌜ r ≡ sameBytes (now (p .entry)) j k ⌝ }
 {
     let a = 6 + 4 * (j as usize);
     let b = 6 + 4 * (k as usize);

@@ -1,20 +1,14 @@
--- What the operations of document 01 give, by the paper's numbers: its findings, its refusals, and its checks.
+-- Findings and refusals by document 01's numbers, and checks in a chain.
 -- Assumes nothing.
 use mathlib.Core.Path.{_≡_, refl}
 use mathlib.Core.Bool.{Bool, true, false}
 use Prim.Native.Nat.{ℕ}
 
--- 01, "Findings"
-pub data Finding : Type 0 where
-  -- reading a pattern gives n
-  read : ℕ → Finding
-  -- judging a model gives met (lowest node, number of nodes) or unmet
-  met : ℕ → ℕ → Finding
-  unmet : Finding
-  -- judging a tableau gives closed (steps, clashes, forks, most lines on a branch)
-  closed : ℕ → ℕ → ℕ → ℕ → Finding
-  -- "A refusal gives its number and place"
-  refused : ℕ → ℕ → Finding
+-- 01, "Findings": what an operation finds, or "A refusal gives its number and place". A is what the operation finds where it doesn't
+-- refuse, such as n for reading a pattern.
+pub data Finding (A : Type 0) : Type 0 where
+  found : A → Finding A
+  refused : ℕ → ℕ → Finding A
 
 -- the outcome of a check: it passes, or it refuses with a number and a place
 pub data Check : Type 0 where
@@ -32,10 +26,10 @@ abbrev pub _then_ : Check → Check → Check
 passes then d = d
 (refuses number place) then d = refuses number place
 
--- the finding, unless a check refuses
-abbrev pub unless : Check → Finding → Finding
-unless passes found = found
-unless (refuses number place) found = refused number place
+-- what was found, unless a check refuses
+abbrev pub unless : {A : Type 0} → Check → A → Finding A
+unless passes value = found value
+unless (refuses number place) value = refused number place
 
 pub then-passes : (c d : Check) → c then d ≡ passes → (c ≡ passes) × (d ≡ passes)
 then-passes passes d h = (refl, h)
@@ -44,3 +38,13 @@ then-passes (refuses number place) d h = (h, cc)
 pub refusesIf-passes : (fault : Bool) (number place : ℕ) → refusesIf fault number place ≡ passes → fault ≡ false
 refusesIf-passes true number place h = cc
 refusesIf-passes false number place h = refl
+
+-- a finding says how the checks came out
+pub found-passes : {A : Type 0} (c : Check) (value value′ : A) → unless c value ≡ found value′ → (c ≡ passes) × (value ≡ value′)
+found-passes passes value value′ h = (refl, cc)
+found-passes (refuses number place) value value′ h = (cc, cc)
+
+pub refused-refuses : {A : Type 0} (c : Check) (value : A) (number place : ℕ) → unless c value ≡ refused number place
+    → c ≡ refuses number place
+refused-refuses passes value number place h = cc
+refused-refuses (refuses n p) value number place h = cc

@@ -6,7 +6,7 @@ use mathlib.Core.Logic.{_⊎_, inl, inr}
 use Prim.Native.Nat.{ℕ, zero, suc, _-_, _≤_, _<_}
 use native.Mathlib.Omega.{arith}
 use native.Mathlib.Nat.{not-suc-le-zero, le-of-suc-le-suc, eq-or-lt-of-le, lt-trans, lt-suc-self}
-use Rattle.pattern.specs.Checks.Tests.{or-false}
+use Rattle.pattern.specs.Checks.Tests.{or-is-false}
 use Rattle.pattern.specs.Checks.Finding.{Check, passes, refuses, _then_, then-passes}
 
 -- some number below n passes the test
@@ -37,8 +37,8 @@ module _ (test : ℕ → Bool) where
   pub none-at : (n k : ℕ) → someBelow n test ≡ false → k < n → test k ≡ false
   unfolding someBelow
   none-at zero k e h = absurd (not-suc-le-zero h)
-  none-at (suc n) k e h = go (eq-or-lt-of-le (le-of-suc-le-suc h)) (or-false _ _ e)
-      (λ l. none-at n k (or-false _ _ e .0) l)
+  none-at (suc n) k e h = go (eq-or-lt-of-le (le-of-suc-le-suc h)) (or-is-false _ _ e)
+      (λ l. none-at n k (or-is-false _ _ e .0) l)
     where
       go : (k ≡ n) ⊎ (k < n) → (someBelow n test ≡ false) × (test n ≡ false) → (k < n → test k ≡ false) → test k ≡ false
       go (inl p) b f = rw p (b .1)

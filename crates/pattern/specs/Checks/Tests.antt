@@ -4,14 +4,14 @@ use mathlib.Core.Path.{_≡_, refl}
 use mathlib.Core.Bool.{Bool, true, false, _&&_, _||_}
 use mathlib.Core.Logic.{_⊎_, inl, inr}
 
-pub or-false : (a b : Bool) → a || b ≡ false → (a ≡ false) × (b ≡ false)
-or-false true b h = (h, cc)
-or-false false b h = (refl, h)
+pub or-is-false : (a b : Bool) → a || b ≡ false → (a ≡ false) × (b ≡ false)
+or-is-false true b h = (h, cc)
+or-is-false false b h = (refl, h)
 
-pub or-true : (a b : Bool) → a || b ≡ true → (a ≡ true) ⊎ (b ≡ true)
-or-true true b h = inl refl
-or-true false b h = inr h
+pub or-is-true : (a b : Bool) → a || b ≡ true → (a ≡ true) ⊎ (b ≡ true)
+or-is-true true b h = inl refl
+or-is-true false b h = inr h
 
-pub and-true : (a b : Bool) → a && b ≡ true → (a ≡ true) × (b ≡ true)
-and-true true b h = (refl, h)
-and-true false b h = (h, cc)
+pub and-is-true : (a b : Bool) → a && b ≡ true → (a ≡ true) × (b ≡ true)
+and-is-true true b h = (refl, h)
+and-is-true false b h = (h, cc)

@@ -7,7 +7,7 @@ use Prim.Native.Nat.{ℕ}
 use Rattle.pattern.specs.declared.table.Field.{Field}
 use Rattle.pattern.specs.declared.table.Form.{Form}
 use Rattle.pattern.specs.declared.entry.Entry.{Entry}
-use Rattle.pattern.specs.Checks.Tests.{and-true}
+use Rattle.pattern.specs.Checks.Tests.{and-is-true}
 use Rattle.pattern.specs.File.Table.{formOf}
 
 -- each field of an entry passes the test, x before y before z
@@ -70,8 +70,8 @@ module _ (test : Field → ℕ → Bool) (Says : Field → ℕ → Type 0) (says
       apart : eachField test e ≡ true → OfFields Says e
       apart h =
           let f = formOf (e .kind) in
-          let xy-z = and-true (test (f .x) (e .x) && test (f .y) (e .y)) (test (f .z) (e .z)) h in
-          let x-y = and-true (test (f .x) (e .x)) (test (f .y) (e .y)) (xy-z .0) in
+          let xy-z = and-is-true (test (f .x) (e .x) && test (f .y) (e .y)) (test (f .z) (e .z)) h in
+          let x-y = and-is-true (test (f .x) (e .x)) (test (f .y) (e .y)) (xy-z .0) in
           (says (f .x) (e .x) .0 (x-y .0), says (f .y) (e .y) .0 (x-y .1), says (f .z) (e .z) .0 (xy-z .1))
 
       together : OfFields Says e → eachField test e ≡ true

@@ -13,11 +13,11 @@ use Rattle.pattern.specs.declared.read.PatternRefusal.{PatternRefusal}
 use Rattle.pattern.specs.declared.read.PatternCheck.{PatternCheck}
 use Rattle.pattern.specs.declared.read.PatternRead.{PatternRead}
 use Rattle.pattern.specs.File.Types.{maxName, maxProperty, maxAxis, maxChannel}
-use Rattle.pattern.specs.Checks.Finding.{Finding, read, refused, Check, passes, refuses, refusesIf, _then_, unless}
+use Rattle.pattern.specs.Checks.Finding.{Finding, found, refused, Check, passes, refuses, refusesIf, _then_, unless}
 use Rattle.pattern.specs.Checks.Range.{someBelow, eachBelow}
 use Rattle.pattern.specs.File.Table.{endOfPath, sortOf, isNeither, isNode, isPath}
 use Rattle.pattern.specs.File.Fields.{eachField}
-use Rattle.pattern.specs.File.Entries.{entryAt, sameEntry}
+use Rattle.pattern.specs.File.Entries.{entryAt, sameBytes}
 
 -- the mark `PAT`
 abbrev pub mark : List ℕ
@@ -81,7 +81,7 @@ allReferBack bs k e = eachField (refersBack bs k) e
 
 -- "equal to an earlier entry"
 abbrev pub repeatsAt : List ℕ → ℕ → Bool
-repeatsAt bs k = someBelow k (λ j. sameEntry bs j k)
+repeatsAt bs k = someBelow k (λ j. sameBytes bs j k)
 
 -- "Then entry by entry, place the entry number: 4, kind;"
 abbrev pub kindCheck : List ℕ → ℕ → Check
@@ -111,8 +111,8 @@ unfoldable pub patternCheck : List ℕ → Check
 patternCheck bs = headerCheck bs then eachBelow (countOf bs) (entryCheck bs) then rootCheck bs
 
 -- "Reading a pattern gives n."
-unfoldable pub readingOf : List ℕ → Finding
-readingOf bs = unless (patternCheck bs) (read (countOf bs))
+unfoldable pub readingOf : List ℕ → Finding ℕ
+readingOf bs = unless (patternCheck bs) (countOf bs)
 
 -- 01's number and place of each refusal of reading
 abbrev pub numberOf : PatternRefusal → ℕ
@@ -141,6 +141,6 @@ checkOf PatternCheck.Passed = passes
 checkOf (PatternCheck.Refused refusal) = refuses (numberOf refusal) (placeOf refusal)
 
 -- the finding of reading
-abbrev pub findingOf : PatternRead → Finding
-findingOf (PatternRead.Read n) = read n
+abbrev pub findingOf : PatternRead → Finding ℕ
+findingOf (PatternRead.Read n) = found n
 findingOf (PatternRead.Refused refusal) = refused (numberOf refusal) (placeOf refusal)

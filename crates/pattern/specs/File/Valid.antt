@@ -1,7 +1,7 @@
 -- A valid pattern file, put declaratively: it is what reading accepts, and what later work knows of a pattern that was read.
 -- Assumes nothing.
 use mathlib.Core.Path.{_≡_, refl, sym, _∙_, ap, subst}
-use mathlib.Core.Bool.{Bool, true, false, not, _||_, or-true as Bool·or-true}
+use mathlib.Core.Bool.{Bool, true, false, not, _||_, or-true}
 use mathlib.Core.Logic.{_⊎_, inl, inr, _↔_}
 use mathlib.Core.List.{List}
 use Prim.Native.Nat.{ℕ, _+_, _-_, _*_, _≤_, _<_}
@@ -12,12 +12,12 @@ use borrow.Author.Tests.{eqb-false, ltb-false, ne-eqb, le-ltb, ltb-true, leb-tru
 use Rattle.wire.specs.Fields.{beginsWith, wordAt}
 use Rattle.pattern.specs.declared.table.Sort.{Sort}
 use Rattle.pattern.specs.declared.table.Field.{Field}
-use Rattle.pattern.specs.Checks.Tests.{or-false, or-true}
+use Rattle.pattern.specs.Checks.Tests.{or-is-false, or-is-true}
 use Rattle.pattern.specs.File.Types.{maxName, maxProperty, maxAxis, maxChannel}
-use Rattle.pattern.specs.Checks.Finding.{Finding, read, Check, passes, refuses, _then_, unless, then-passes, refusesIf-passes}
+use Rattle.pattern.specs.Checks.Finding.{found, refused, passes, refuses, _then_, then-passes, refusesIf-passes, found-passes, refused-refuses}
 use Rattle.pattern.specs.Checks.Range.{eachBelow, each-at, each-below, none-at, none-below}
 use Rattle.pattern.specs.File.Table.{endOfPath, isNode, isPath, isNeither}
-use Rattle.pattern.specs.File.Entries.{entryAt, sameEntry}
+use Rattle.pattern.specs.File.Entries.{entryAt, sameBytes}
 use Rattle.pattern.specs.File.Reading.{mark, countOf, inRange, sortIf, sortAt, earlierSort, refersBack, repeatsAt, headerCheck, kindCheck, fieldCheck, referenceCheck, repeatCheck, entryCheck, rootCheck, patternCheck, readingOf, markCheck, versionCheck, countCheck}
 use Rattle.pattern.specs.File.Fields.{OfFields, OfReference, OfReferences, each-field}
 
@@ -48,17 +48,17 @@ abbrev pub EarlierPath : List ℕ → ℕ → ℕ → Type 0
 EarlierPath bs k v = (v ≡ endOfPath) ⊎ ((v < k) × (sortAt bs v ≡ Sort.Path))
 
 -- an entry that meets the checks 4 to 7
-pub record Entered (bs : List ℕ) (k : ℕ) : Type 0 where
+pub record ValidEntry (bs : List ℕ) (k : ℕ) : Type 0 where
   pub sorted : (sortAt bs k ≡ Sort.Node) ⊎ (sortAt bs k ≡ Sort.Path)
   pub within : OfFields Within (entryAt bs k)
   pub refers : OfReferences (EarlierNode bs k) (EarlierPath bs k) (entryAt bs k)
-  pub different : (j : ℕ) → j < k → sameEntry bs j k ≡ false
+  pub different : (j : ℕ) → j < k → sameBytes bs j k ≡ false
 
 -- a file of n entries that meets every check
 pub record Valid (bs : List ℕ) (n : ℕ) : Type 0 where
   pub header : Header bs
   pub count-is : countOf bs ≡ n
-  pub entered : (k : ℕ) → k < n → Entered bs k
+  pub entries : (k : ℕ) → k < n → ValidEntry bs k
   pub root-node : sortAt bs (n - 1) ≡ Sort.Node
 
 -- ---- each test of reading, and what it says
@@ -67,11 +67,11 @@ unfolding headerCheck
 header-passes bs h =
     let a = then-passes (markCheck bs) (versionCheck bs then countCheck bs) h in
     let b = then-passes (versionCheck bs) (countCheck bs) (a .1) in
-    let marks = or-false (ltb (length bs) 6) (not (beginsWith mark bs)) (refusesIf-passes _ 1 0 (a .0)) in
+    let marks = or-is-false (ltb (length bs) 6) (not (beginsWith mark bs)) (refusesIf-passes _ 1 0 (a .0)) in
     let n = countOf bs in
     let long = not (eqb (length bs) (6 + 4 * n)) in
-    let counts = or-false (eqb n 0) (ltb 255 n || long) (refusesIf-passes _ 3 0 (b .1)) in
-    let sizes = or-false (ltb 255 n) long (counts .1) in
+    let counts = or-is-false (eqb n 0) (ltb 255 n || long) (refusesIf-passes _ 3 0 (b .1)) in
+    let sizes = or-is-false (ltb 255 n) long (counts .1) in
     record {
       marked = not-false _ (marks .1);
       version-one = eqb-true _ _ (not-false _ (refusesIf-passes _ 2 0 (b .0)));
@@ -133,7 +133,7 @@ module _ (bs : List ℕ) (k : ℕ) where
       (λ h. let r = node-if (ltb v k) (sortAt bs v) h in (ltb-true v k (r .0), r .1), λ h. rw (lt-ltb v k (h .0), h .1))
 
   path-refers : (v : ℕ) → (eqb v endOfPath || isPath (earlierSort bs k v) ≡ true) ↔ EarlierPath bs k v
-  path-refers v = (λ h. apart (or-true (eqb v endOfPath) (isPath (earlierSort bs k v)) h), together)
+  path-refers v = (λ h. apart (or-is-true (eqb v endOfPath) (isPath (earlierSort bs k v)) h), together)
     where
       apart : (eqb v endOfPath ≡ true) ⊎ (isPath (earlierSort bs k v) ≡ true) → EarlierPath bs k v
       apart (inl h) = inl (eqb-true v endOfPath h)
@@ -141,7 +141,7 @@ module _ (bs : List ℕ) (k : ℕ) where
 
       together : EarlierPath bs k v → eqb v endOfPath || isPath (earlierSort bs k v) ≡ true
       together (inl e) = rw (eq-eqb v endOfPath e)
-      together (inr h) = rw (lt-ltb v k (h .0), h .1) (Bool·or-true (eqb v endOfPath))
+      together (inr h) = rw (lt-ltb v k (h .0), h .1) (or-true (eqb v endOfPath))
 
   field-refers : (F : Field) (v : ℕ) → (refersBack bs k F v ≡ true) ↔ OfReference (EarlierNode bs k) (EarlierPath bs k) F v
   field-refers Field.Unused v = (λ h. tt, λ h. refl)
@@ -152,7 +152,7 @@ module _ (bs : List ℕ) (k : ℕ) where
   field-refers Field.Node v = node-refers v
   field-refers Field.Path v = path-refers v
 
-  entry-passes : entryCheck bs k ≡ passes → Entered bs k
+  entry-passes : entryCheck bs k ≡ passes → ValidEntry bs k
   unfolding entryCheck
   entry-passes h =
       let e = entryAt bs k in
@@ -163,10 +163,10 @@ module _ (bs : List ℕ) (k : ℕ) where
         sorted = sort-known (sortAt bs k) (refusesIf-passes _ 4 k (a .0));
         within = each-field inRange Within field-within e .0 (not-false _ (refusesIf-passes _ 5 k (b .0)));
         refers = each-field (refersBack bs k) (OfReference (EarlierNode bs k) (EarlierPath bs k)) field-refers e .0 (not-false _ (refusesIf-passes _ 6 k (c .0)));
-        different = λ j l. none-at (λ i. sameEntry bs i k) k j (refusesIf-passes (repeatsAt bs k) 7 k (c .1)) l;
+        different = λ j l. none-at (λ i. sameBytes bs i k) k j (refusesIf-passes (repeatsAt bs k) 7 k (c .1)) l;
       }
 
-  entry-accepted : Entered bs k → entryCheck bs k ≡ passes
+  entry-accepted : ValidEntry bs k → entryCheck bs k ≡ passes
   unfolding entryCheck
   entry-accepted h =
       let e = entryAt bs k in
@@ -174,37 +174,41 @@ module _ (bs : List ℕ) (k : ℕ) where
         known-sort (sortAt bs k) (h .sorted),
         each-field inRange Within field-within e .1 (h .within),
         each-field (refersBack bs k) (OfReference (EarlierNode bs k) (EarlierPath bs k)) field-refers e .1 (h .refers),
-        none-below (λ i. sameEntry bs i k) k (h .different),
+        none-below (λ i. sameBytes bs i k) k (h .different),
       )
 
-check-passes : (c : Check) (found : Finding) (n : ℕ) → unless c found ≡ read n → (c ≡ passes) × (found ≡ read n)
-check-passes passes found n h = (refl, h)
-check-passes (refuses number place) found n h = (cc, cc)
+-- ---- what a finding of reading says of the checks 1 to 8, which every judgement begins with
+pub read-passes : (bs : List ℕ) (n : ℕ) → readingOf bs ≡ found n → (patternCheck bs ≡ passes) × (countOf bs ≡ n)
+unfolding readingOf
+read-passes bs n h = found-passes (patternCheck bs) (countOf bs) n h
+
+pub read-refuses : (bs : List ℕ) (number place : ℕ) → readingOf bs ≡ refused number place → patternCheck bs ≡ refuses number place
+unfolding readingOf
+read-refuses bs number place h = refused-refuses (patternCheck bs) (countOf bs) number place h
 
 -- a pattern that was read is valid
-pub valid : (bs : List ℕ) (n : ℕ) → readingOf bs ≡ read n → Valid bs n
-unfolding readingOf patternCheck rootCheck
+pub valid : (bs : List ℕ) (n : ℕ) → readingOf bs ≡ found n → Valid bs n
+unfolding patternCheck rootCheck
 valid bs n h =
-    let found = check-passes (patternCheck bs) (read (countOf bs)) n h in
-    let a = then-passes (headerCheck bs) (eachBelow (countOf bs) (entryCheck bs) then rootCheck bs) (found .0) in
+    let r = read-passes bs n h in
+    let a = then-passes (headerCheck bs) (eachBelow (countOf bs) (entryCheck bs) then rootCheck bs) (r .0) in
     let b = then-passes (eachBelow (countOf bs) (entryCheck bs)) (rootCheck bs) (a .1) in
-    let count : countOf bs ≡ n = cc (found .1) in
-    subst (λ (m : ℕ). Valid bs m) count (from-checks (header-passes bs (a .0)) (b .0) (b .1))
+    subst (λ (m : ℕ). Valid bs m) (r .1) (from-checks (header-passes bs (a .0)) (b .0) (b .1))
   where
     from-checks : Header bs → eachBelow (countOf bs) (entryCheck bs) ≡ passes → rootCheck bs ≡ passes → Valid bs (countOf bs)
     from-checks header each root =
-        let entered : (k : ℕ) → k < countOf bs → Entered bs k = λ k l. entry-passes bs k (each-at (entryCheck bs) (countOf bs) k each l) in
+        let entries : (k : ℕ) → k < countOf bs → ValidEntry bs k = λ k l. entry-passes bs k (each-at (entryCheck bs) (countOf bs) k each l) in
         record {
           header = header;
           count-is = refl;
-          entered = entered;
-          root-node = not-path _ (entered (countOf bs - 1) (omega (arith, header .some-entry)) .sorted) (refusesIf-passes _ 8 (countOf bs - 1) root);
+          entries = entries;
+          root-node = not-path _ (entries (countOf bs - 1) (omega (arith, header .some-entry)) .sorted) (refusesIf-passes _ 8 (countOf bs - 1) root);
         }
 
 -- a valid pattern is read
-pub valid-read : (bs : List ℕ) (n : ℕ) → Valid bs n → readingOf bs ≡ read n
+pub valid-read : (bs : List ℕ) (n : ℕ) → Valid bs n → readingOf bs ≡ found n
 unfolding readingOf patternCheck rootCheck
 valid-read bs n h =
     let count = h .count-is in
     rw
-    (header-accepted bs (h .header), count, each-below (entryCheck bs) n (λ k l. entry-accepted bs k (h .entered k l)), h .root-node)
+    (header-accepted bs (h .header), count, each-below (entryCheck bs) n (λ k l. entry-accepted bs k (h .entries k l)), h .root-node)

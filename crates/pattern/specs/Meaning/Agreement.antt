@@ -91,14 +91,14 @@ module _ (M : Model) (nom : Naming M) where
       }
 
   -- ---- and there is no other: meanings of one pattern agree
-  abbrev pub SameNode : (ℕ → M .Node → Type 0) → (ℕ → M .Node → Type 0) → ℕ → Type 0
-  SameNode H H′ v = (u : M .Node) → H v u ↔ H′ v u
+  abbrev pub NodeAgrees : (ℕ → M .Node → Type 0) → (ℕ → M .Node → Type 0) → ℕ → Type 0
+  NodeAgrees H H′ v = (u : M .Node) → H v u ↔ H′ v u
 
-  abbrev pub SamePath : (ℕ → M .Node → M .Node → Type 0) → (ℕ → M .Node → M .Node → Type 0) → ℕ → Type 0
-  SamePath L L′ v = (u w : M .Node) → L v u w ↔ L′ v u w
+  abbrev pub PathAgrees : (ℕ → M .Node → M .Node → Type 0) → (ℕ → M .Node → M .Node → Type 0) → ℕ → Type 0
+  PathAgrees L L′ v = (u w : M .Node) → L v u w ↔ L′ v u w
 
   module _ (H H′ : ℕ → M .Node → Type 0) (L L′ : ℕ → M .Node → M .Node → Type 0) (x y z : ℕ) where
-    node-carries : (κ : Kind) → OfReferences (SameNode H H′) (SamePath L L′) (record { kind = κ; x = x; y = y; z = z }) → (u : M .Node)
+    node-carries : (κ : Kind) → OfReferences (NodeAgrees H H′) (PathAgrees L L′) (record { kind = κ; x = x; y = y; z = z }) → (u : M .Node)
         → NodeMeans M nom H L κ x y z u → NodeMeans M nom H′ L′ κ x y z u
     node-carries Kind.Property r u h = h
     node-carries Kind.Name r u h = h
@@ -113,7 +113,7 @@ module _ (M : Model) (nom : Naming M) where
     node-carries Kind.Fork r u h = h
     node-carries Kind.Unknown r u h = h
 
-    path-carries : (κ : Kind) → OfReferences (SameNode H H′) (SamePath L L′) (record { kind = κ; x = x; y = y; z = z }) → (u w : M .Node)
+    path-carries : (κ : Kind) → OfReferences (NodeAgrees H H′) (PathAgrees L L′) (record { kind = κ; x = x; y = y; z = z }) → (u w : M .Node)
         → PathMeans M nom H L κ x y z u w → PathMeans M nom H′ L′ κ x y z u w
     path-carries Kind.Property r u w h = h
     path-carries Kind.Name r u w h = h
@@ -130,29 +130,29 @@ module _ (M : Model) (nom : Naming M) where
     path-carries Kind.Unknown r u w h = h
 
   -- the meanings of an entry by H and L and by H′ and L′ agree
-  abbrev pub SameEntry : List ℕ → (H H′ : ℕ → M .Node → Type 0) (L L′ : ℕ → M .Node → M .Node → Type 0) → ℕ → Type 0
-  SameEntry bs H H′ L L′ k = (sortAt bs k ≡ Sort.Node → SameNode H H′ k) × (sortAt bs k ≡ Sort.Path → SamePath L L′ k)
+  abbrev pub EntryAgrees : List ℕ → (H H′ : ℕ → M .Node → Type 0) (L L′ : ℕ → M .Node → M .Node → Type 0) → ℕ → Type 0
+  EntryAgrees bs H H′ L L′ k = (sortAt bs k ≡ Sort.Node → NodeAgrees H H′ k) × (sortAt bs k ≡ Sort.Path → PathAgrees L L′ k)
 
   module _ {bs : List ℕ} {n : ℕ} (ok : Valid bs n) {H H′ : ℕ → M .Node → Type 0} {L L′ : ℕ → M .Node → M .Node → Type 0}
       (m : Meaning M nom bs n H L) (m′ : Meaning M nom bs n H′ L′) where
-    same-references : (k : ℕ) → k < n → ((v : ℕ) → v < k → SameEntry bs H H′ L L′ v)
-        → OfReferences (SameNode H H′) (SamePath L L′) (entryAt bs k)
-    same-references k l same = map-references (λ v g. same v (g .0) .0 (g .1)) path (entryAt bs k) (ok .entered k l .refers)
+    same-references : (k : ℕ) → k < n → ((v : ℕ) → v < k → EntryAgrees bs H H′ L L′ v)
+        → OfReferences (NodeAgrees H H′) (PathAgrees L L′) (entryAt bs k)
+    same-references k l same = map-references (λ v g. same v (g .0) .0 (g .1)) path (entryAt bs k) (ok .entries k l .refers)
       where
-        path : (v : ℕ) → EarlierPath bs k v → SamePath L L′ v
+        path : (v : ℕ) → EarlierPath bs k v → PathAgrees L L′ v
         path v (inl e) u w = subst (λ (i : ℕ). L i u w ↔ L′ i u w) (sym e) (Iff·trans (m .ends u w) (Iff·symm (m′ .ends u w)))
         path v (inr g) u w = same v (g .0) .1 (g .1) u w
 
     -- 01's clauses determine the meaning of every entry
-    pub only-one : (k : ℕ) → k < n → SameEntry bs H H′ L L′ k
-    only-one k = WellFounded·induction (Nat·lt-wfRel .wf) {C = λ i. i < n → SameEntry bs H H′ L L′ i} k step
+    pub only-one : (k : ℕ) → k < n → EntryAgrees bs H H′ L L′ k
+    only-one k = WellFounded·induction (Nat·lt-wfRel .wf) {C = λ i. i < n → EntryAgrees bs H H′ L L′ i} k step
       where
-        step : (k : ℕ) → ((v : ℕ) → v < k → v < n → SameEntry bs H H′ L L′ v) → k < n → SameEntry bs H H′ L L′ k
+        step : (k : ℕ) → ((v : ℕ) → v < k → v < n → EntryAgrees bs H H′ L L′ v) → k < n → EntryAgrees bs H H′ L L′ k
         step k below l =
             let e = entryAt bs k in
             let r = same-references k l (λ v g. below v g (lt-trans g l)) in
-            let r′ : OfReferences (SameNode H′ H) (SamePath L′ L) e =
-            map-references {N′ = SameNode H′ H} {P′ = SamePath L′ L} (λ v g u. Iff·symm (g u)) (λ v g u w. Iff·symm (g u w)) e r in (
+            let r′ : OfReferences (NodeAgrees H′ H) (PathAgrees L′ L) e =
+            map-references {N′ = NodeAgrees H′ H} {P′ = PathAgrees L′ L} (λ v g u. Iff·symm (g u)) (λ v g u w. Iff·symm (g u w)) e r in (
               λ s u. Iff·trans (m .nodes k l s u)
                   (Iff·trans
                   (node-carries H H′ L L′ (e .x) (e .y) (e .z) (e .kind) r u, node-carries H′ H L′ L (e .x) (e .y) (e .z) (e .kind) r′ u)

@@ -123,7 +123,7 @@ module _ {bs : List ℕ} {n : ℕ} (ok : Valid bs n) where
   -- what agrees on the entries before k agrees on the references of entry k
   agree : (N N′ : ℕ → NExp) (P P′ : ℕ → PExp) (k : ℕ) → k < n → ((v : ℕ) → v < k → (N v ≡ N′ v) × (P v ≡ P′ v))
       → OfReferences (λ v. N v ≡ N′ v) (Agree P P′) (entryAt bs k)
-  agree N N′ P P′ k l same = map-references node path (entryAt bs k) (ok .entered k l .refers)
+  agree N N′ P P′ k l same = map-references node path (entryAt bs k) (ok .entries k l .refers)
     where
       node : (v : ℕ) → EarlierNode bs k v → N v ≡ N′ v
       node v h = same v (h .0) .0

@@ -83,7 +83,7 @@ module _ {bs : List ℕ} {n : ℕ} (ok : Valid bs n) (Q : ℕ → Type 0) (used 
 
   references : (k : ℕ) → k < n → ((v : ℕ) → v < k → OfNames Q (nodeAt bs v) × OfNamesP Q (pathAt bs v))
       → OfReferences (λ v. OfNames Q (nodeAt bs v)) (λ v. OfNamesP Q (pathAt bs v)) (entryAt bs k)
-  references k l below = map-references (λ v g. below v (g .0) .0) path (entryAt bs k) (ok .entered k l .refers)
+  references k l below = map-references (λ v g. below v (g .0) .0) path (entryAt bs k) (ok .entries k l .refers)
     where
       path : (v : ℕ) → EarlierPath bs k v → OfNamesP Q (pathAt bs v)
       path v (inl e) = subst (λ (i : ℕ). OfNamesP Q (pathAt bs i)) (sym e) (subst (OfNamesP Q) (sym (end-at bs)) (tt, tt))

@@ -6,12 +6,12 @@ use mathlib.Core.Path.{_≡_, sym, _∙_}
 use mathlib.Core.Bool.{false}
 use native.Mathlib.Omega.{arith}
 use Rattle.pattern.specs.Checks.Range.{none-below, some-at, above-less}
-use Rattle.pattern.specs.File.Entries.{sameEntry}
+use Rattle.pattern.specs.File.Entries.{sameBytes}
 use Rattle.pattern.proofs.read.repeats.Statement.{statement}
 use Rattle.pattern.proofs.read.repeats.Tie as tie
 
 abbrev Inv-loop : tie.InvT-loop
-Inv-loop p k j₀ j = (j ≤ k) × ((i : ℕ) → j ≤ i → i < k → sameEntry p i k ≡ false)
+Inv-loop p k j₀ j = (j ≤ k) × ((i : ℕ) → j ≤ i → i < k → sameBytes p i k ≡ false)
 
 abbrev μ-loop : tie.MeasureT-loop
 μ-loop p k j₀ j = j

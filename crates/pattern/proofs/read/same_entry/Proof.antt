@@ -1,7 +1,7 @@
 -- `pattern::read::same_entry` meets its contract: the bytes are compared in their order, and the first that differ decide.
 -- Assumes nothing.
 use borrow.Author.Tests.{eq-eqb, ne-eqb}
-use Rattle.pattern.specs.File.Entries.{sameEntry}
+use Rattle.pattern.specs.File.Entries.{sameBytes}
 use borrow.Author.Needs.{needs}
 use Rattle.pattern.proofs.read.same_entry.Statement.{statement}
 use Rattle.pattern.proofs.read.same_entry.Tie as tie
@@ -25,7 +25,7 @@ shared-slice-read-if1-2 : tie.Need-shared-slice-read-if1-2
 shared-slice-read-if1-2 c = search needs
 
 returns : tie.Need-returns
-unfolding sameEntry
+unfolding sameBytes
 returns c = rw (ne-eqb _ _ (c .if1 .taken))
 
 add-if2 : tie.Need-add-if2
@@ -41,7 +41,7 @@ shared-slice-read-if2-2 : tie.Need-shared-slice-read-if2-2
 shared-slice-read-if2-2 c = search needs
 
 returns-2 : tie.Need-returns-2
-unfolding sameEntry
+unfolding sameBytes
 returns-2 c = rw (eq-eqb _ _ (c .before .before .before .if1 .left), ne-eqb _ _ (c .if2 .taken))
 
 add-if3 : tie.Need-add-if3
@@ -57,7 +57,7 @@ shared-slice-read-if3-2 : tie.Need-shared-slice-read-if3-2
 shared-slice-read-if3-2 c = search needs
 
 returns-3 : tie.Need-returns-3
-unfolding sameEntry
+unfolding sameBytes
 returns-3 c = rw (eq-eqb _ _ (c .before .before .before .before .before .before .if1 .left), eq-eqb _ _ (c .before .before .before .if2 .left), ne-eqb _ _ (c .if3 .taken))
 
 add-result : tie.Need-add-result
@@ -73,7 +73,7 @@ shared-slice-read-result-2 : tie.Need-shared-slice-read-result-2
 shared-slice-read-result-2 c = search needs
 
 returns-4 : tie.Need-returns-4
-unfolding sameEntry
+unfolding sameBytes
 returns-4 c = rw (eq-eqb _ _ (c .before .before .before .before .before .before .before .before .if1 .left), eq-eqb _ _ (c .before .before .before .before .before .if2 .left), eq-eqb _ _ (c .before .before .if3 .left))
 
 pub same-entry-spec : {M : Type 1} → statement M
