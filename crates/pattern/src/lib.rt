@@ -2,6 +2,7 @@
 // them. Reading a pattern checks any bytes whatever, and answers the number of entries or the first
 // refusal that applies.
 pub mod entry;
+pub mod names;
 pub mod read;
 pub mod table;
 pub mod types;

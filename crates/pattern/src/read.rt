@@ -96,7 +96,7 @@ fn sort_at(p: &[u8], k: u8) -> Sort
     kind.sort()
 }
 
-// The sort of entry v if it stands before entry k.
+// The sort of entry v if it stands before entry k; otherwise there is none.
 fn earlier_sort(p: &[u8], k: u8, v: u8) -> Sort
     requires { ⌜ 10 + 4 * k ≤ length (now p) ⌝ }
     ensures { λ r. ⌜ r ≡ earlierSort (now (p .entry)) k v ⌝ }

@@ -1,5 +1,6 @@
-// The types that document 01 counts: "Names run from 0 to 127, properties 0 to 31, axes 0 to 7,
-// channels 0 to 3." Each is made from a number by a function that refuses one out of range.
+// Document 01's kind types: "Names run from 0 to 127, properties 0 to 31, axes 0 to 7, channels 0 to
+// 3." Each is made from a number by a function that refuses one out of range. Beside them, the signs
+// and the comparisons.
 ghost use mathlib.Core.Path.{_≡_};
 ghost use Rattle.pattern.specs.File.Types.{make, maxName, maxProperty, maxAxis, maxChannel, nameMade, propertyMade, axisMade, channelMade, channelNumber, opposite, otherOf};
 

@@ -1,12 +1,12 @@
 -- The numbers below a bound: whether some number passes a test, and a check of each in turn.
 -- Assumes nothing.
 use mathlib.Core.Path.{_≡_, refl}
-use mathlib.Core.Bool.{Bool, true, false, _||_, or-true}
+use mathlib.Core.Bool.{Bool, true, false, _||_, or-true, false≢true}
 use mathlib.Core.Logic.{_⊎_, inl, inr}
 use Prim.Native.Nat.{ℕ, zero, suc, _-_, _≤_, _<_}
 use native.Mathlib.Omega.{arith}
 use native.Mathlib.Nat.{not-suc-le-zero, le-of-suc-le-suc, eq-or-lt-of-le, lt-trans, lt-suc-self}
-use Rattle.pattern.specs.Checks.Tests.{or-is-false}
+use Rattle.pattern.specs.Checks.Tests.{or-is-false, or-is-true}
 use Rattle.pattern.specs.Checks.Finding.{Check, passes, refuses, _then_, then-passes}
 
 -- some number below n passes the test
@@ -43,6 +43,16 @@ module _ (test : ℕ → Bool) where
       go : (k ≡ n) ⊎ (k < n) → (someBelow n test ≡ false) × (test n ≡ false) → (k < n → test k ≡ false) → test k ≡ false
       go (inl p) b f = rw p (b .1)
       go (inr l) b f = f l
+
+  pub some-found : (n : ℕ) → someBelow n test ≡ true → (k : ℕ) × (k < n) × (test k ≡ true)
+  unfolding someBelow
+  some-found zero h = absurd (false≢true h)
+  some-found (suc n) h = go (or-is-true (someBelow n test) (test n) h) (some-found n)
+    where
+      go : (someBelow n test ≡ true) ⊎ (test n ≡ true) → (someBelow n test ≡ true → (k : ℕ) × (k < n) × (test k ≡ true))
+          → (k : ℕ) × (k < suc n) × (test k ≡ true)
+      go (inl e) below = let r = below e in (r .0, lt-trans (r .1) (lt-suc-self n), r .2)
+      go (inr e) below = (n, lt-suc-self n, e)
 
 module _ (check : ℕ → Check) where
   pub each-below : (n : ℕ) → ((k : ℕ) → k < n → check k ≡ passes) → eachBelow n check ≡ passes

@@ -3,9 +3,9 @@
 use mathlib.Core.Path.{_≡_, refl}
 use mathlib.Core.Bool.{Bool, true, false}
 use mathlib.Core.List.{List, [], _∷_}
-use Prim.Native.Nat.{ℕ, zero, suc}
+use Prim.Native.Nat.{ℕ, zero, suc, _<_}
 use native.Mathlib.Omega.{arith}
-use lib.ListN.{getD}
+use lib.ListN.{length, getD, List·getD-eq-default}
 use Rattle.pattern.specs.declared.table.Kind.{Kind}
 use Rattle.pattern.specs.declared.table.Sort.{Sort}
 use Rattle.pattern.specs.declared.table.Field.{Field}
@@ -20,6 +20,21 @@ kinds =
 abbrev pub kindOf : ℕ → Kind
 kindOf zero = Kind.Unknown
 kindOf (suc n) = getD kinds n Kind.Unknown
+
+-- 01's number of each kind; 0 is of none
+abbrev pub kindNumber : Kind → ℕ
+kindNumber Kind.Property = 1
+kindNumber Kind.Name = 2
+kindNumber Kind.Not = 3
+kindNumber Kind.Both = 4
+kindNumber Kind.After = 5
+kindNumber Kind.Same = 6
+kindNumber Kind.Differ = 7
+kindNumber Kind.Step = 8
+kindNumber Kind.Jump = 9
+kindNumber Kind.Test = 10
+kindNumber Kind.Fork = 11
+kindNumber Kind.Unknown = 0
 
 -- "A path reference 255 means end of path."
 abbrev pub endOfPath : ℕ
@@ -73,23 +88,27 @@ isPath Sort.Node = false
 isPath Sort.Path = true
 isPath Sort.Neither = false
 
--- a number that no row has is of no kind
-pub kind-beyond : (n : ℕ)
-    → (n ≡ 1 → ⊥) → (n ≡ 2 → ⊥) → (n ≡ 3 → ⊥) → (n ≡ 4 → ⊥) → (n ≡ 5 → ⊥) → (n ≡ 6 → ⊥) → (n ≡ 7 → ⊥) → (n ≡ 8 → ⊥) → (n ≡ 9 → ⊥)
-    → (n ≡ 10 → ⊥) → (n ≡ 11 → ⊥) → kindOf n ≡ Kind.Unknown
-kind-beyond zero a b c d e f g h i j k = refl
-kind-beyond (suc zero) a b c d e f g h i j k = absurd (a refl)
-kind-beyond (suc (suc zero)) a b c d e f g h i j k = absurd (b refl)
-kind-beyond (suc (suc (suc zero))) a b c d e f g h i j k = absurd (c refl)
-kind-beyond (suc (suc (suc (suc zero)))) a b c d e f g h i j k = absurd (d refl)
-kind-beyond (suc (suc (suc (suc (suc zero))))) a b c d e f g h i j k = absurd (e refl)
-kind-beyond (suc (suc (suc (suc (suc (suc zero)))))) a b c d e f g h i j k = absurd (f refl)
-kind-beyond (suc (suc (suc (suc (suc (suc (suc zero))))))) a b c d e f g h i j k = absurd (g refl)
-kind-beyond (suc (suc (suc (suc (suc (suc (suc (suc zero)))))))) a b c d e f g h i j k = absurd (h refl)
-kind-beyond (suc (suc (suc (suc (suc (suc (suc (suc (suc zero))))))))) a b c d e f g h i j k = absurd (i refl)
-kind-beyond (suc (suc (suc (suc (suc (suc (suc (suc (suc (suc zero)))))))))) a b c d e f g h i j k = absurd (j refl)
-kind-beyond (suc (suc (suc (suc (suc (suc (suc (suc (suc (suc (suc zero))))))))))) a b c d e f g h i j k = absurd (k refl)
-kind-beyond (suc (suc (suc (suc (suc (suc (suc (suc (suc (suc (suc (suc n)))))))))))) a b c d e f g h i j k = refl
+-- ---- laws
+pub kind-of-number : (κ : Kind) → kindOf (kindNumber κ) ≡ κ
+kind-of-number Kind.Property = refl
+kind-of-number Kind.Name = refl
+kind-of-number Kind.Not = refl
+kind-of-number Kind.Both = refl
+kind-of-number Kind.After = refl
+kind-of-number Kind.Same = refl
+kind-of-number Kind.Differ = refl
+kind-of-number Kind.Step = refl
+kind-of-number Kind.Jump = refl
+kind-of-number Kind.Test = refl
+kind-of-number Kind.Fork = refl
+kind-of-number Kind.Unknown = refl
+
+-- a number that no row of the table has is of no kind
+pub kind-beyond : (n : ℕ) → ((k : ℕ) → k < length kinds → n ≡ suc k → ⊥) → kindOf n ≡ Kind.Unknown
+kind-beyond zero none = refl
+kind-beyond (suc k) none =
+    let beyond : k < length kinds → ⊥ = λ l. none k l refl in
+    List·getD-eq-default kinds Kind.Unknown {n = k} (omega arith)
 
 -- the sorts are three
 pub path-no-node : Sort.Path ≡ Sort.Node → ⊥

@@ -1,4 +1,4 @@
--- The types that document 01 counts, and what their making functions answer.
+-- The kind types of document 01, what their making functions answer, and the two enums that go with them.
 -- Assumes nothing.
 use mathlib.Core.Path.{_≡_, refl}
 use mathlib.Core.Bool.{Bool, true, false}
@@ -39,26 +39,6 @@ madeIf false n = outOfRange
 abbrev pub make : ℕ → ℕ → Made
 make largest n = madeIf (leb n largest) n
 
-pub make-in : (largest n : ℕ) → n ≤ largest → make largest n ≡ made n
-make-in largest n h = rw (le-leb n largest h)
-
-pub make-out : (largest n : ℕ) → largest < n → make largest n ≡ outOfRange
-make-out largest n h = rw (lt-leb n largest h)
-
-pub made-within : (largest n k : ℕ) → made k ≡ make largest n → leb n largest ≡ true
-made-within largest n k e = go (leb n largest) e
-  where
-    go : (b : Bool) → made k ≡ madeIf b n → b ≡ true
-    go true h = refl
-    go false h = cc
-
-pub out-beyond : (largest n : ℕ) → outOfRange ≡ make largest n → leb n largest ≡ false
-out-beyond largest n e = go (leb n largest) e
-  where
-    go : (b : Bool) → outOfRange ≡ madeIf b n → b ≡ false
-    go true h = cc
-    go false h = refl
-
 -- 01's number of each channel
 abbrev pub channelNumber : Channel → ℕ
 channelNumber Channel.C0 = 0
@@ -92,3 +72,24 @@ opposite Sign.Negative = Sign.Positive
 abbrev pub otherOf : Comparison → Comparison
 otherOf Comparison.Same = Comparison.Differ
 otherOf Comparison.Differ = Comparison.Same
+
+-- ---- laws
+pub make-in : (largest n : ℕ) → n ≤ largest → make largest n ≡ made n
+make-in largest n h = rw (le-leb n largest h)
+
+pub make-out : (largest n : ℕ) → largest < n → make largest n ≡ outOfRange
+make-out largest n h = rw (lt-leb n largest h)
+
+pub made-within : (largest n k : ℕ) → made k ≡ make largest n → true ≡ leb n largest
+made-within largest n k e = go (leb n largest) e
+  where
+    go : (b : Bool) → made k ≡ madeIf b n → true ≡ b
+    go true h = refl
+    go false h = cc
+
+pub out-beyond : (largest n : ℕ) → outOfRange ≡ make largest n → false ≡ leb n largest
+out-beyond largest n e = go (leb n largest) e
+  where
+    go : (b : Bool) → outOfRange ≡ madeIf b n → false ≡ b
+    go true h = cc
+    go false h = refl

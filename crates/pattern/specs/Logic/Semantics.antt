@@ -1,4 +1,5 @@
--- What expressions mean: source 000's definitions 1 and 3, clause for clause, in their order.
+-- What expressions mean: source 000's definitions 1 and 3, clause for clause, in their order; the two clauses of = and ≠ are one, over the two
+-- of `Compared`.
 -- Assumes nothing.
 use mathlib.Core.Path.{_≡_}
 use mathlib.Core.Logic.{_⊎_}

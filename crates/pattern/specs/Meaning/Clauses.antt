@@ -12,7 +12,7 @@ use Rattle.pattern.specs.File.Entries.{entryAt}
 use Rattle.pattern.specs.File.Reading.{sortAt}
 
 module _ (M : Model) (nom : Naming M) where
-  -- What a node entry says of node u, given what the entries that it refers to mean: H for nodes, L for paths. A path entry says nothing.
+  -- What a node entry says of node u, given what the entries that it refers to mean: H for nodes, L for paths. A path entry is never asked.
   abbrev pub NodeMeans : (ℕ → M .Node → Type 0) → (ℕ → M .Node → M .Node → Type 0) → Kind → ℕ → ℕ → ℕ → M .Node → Type 0
   NodeMeans H L Kind.Property x y z u = M .label x u
   NodeMeans H L Kind.Name x y z u = nom x ≡ u
@@ -29,7 +29,7 @@ module _ (M : Model) (nom : Naming M) where
   NodeMeans H L Kind.Fork x y z u = ⊥
   NodeMeans H L Kind.Unknown x y z u = ⊥
 
-  -- "From node u", a path entry leads to node v. A node entry leads nowhere.
+  -- "From node u", a path entry leads to node v. A node entry is never asked.
   abbrev pub PathMeans :
       (ℕ → M .Node → Type 0) → (ℕ → M .Node → M .Node → Type 0) → Kind → ℕ → ℕ → ℕ → M .Node → M .Node → Type 0
   PathMeans H L Kind.Property x y z u v = ⊥

@@ -22,7 +22,7 @@ use Rattle.pattern.specs.File.Valid.{Valid, EarlierNode, EarlierPath}
 abbrev pub end : PExp
 end = PExp.test truth
 
--- The expression of a node entry with these fields, given the expressions of the entries that it refers to. A path entry is no node.
+-- The expression of a node entry with these fields, given the expressions of the entries that it refers to. A path entry is no node, and what stands there is never asked.
 abbrev pub nodeOf : Kind → ℕ → ℕ → ℕ → (ℕ → NExp) → (ℕ → PExp) → NExp
 nodeOf Kind.Property x y z N P = NExp.property x
 nodeOf Kind.Name x y z N P = NExp.name x
@@ -37,7 +37,8 @@ nodeOf Kind.Test x y z N P = truth
 nodeOf Kind.Fork x y z N P = truth
 nodeOf Kind.Unknown x y z N P = truth
 
--- The same of a path entry: "Source 000's composition is carried by the rest of each path." A node entry is no path.
+-- The same of a path entry: "Source 000's composition is carried by the rest of each path." A node entry is no path, and what
+-- stands there is never asked.
 abbrev pub pathOf : Kind → ℕ → ℕ → ℕ → (ℕ → NExp) → (ℕ → PExp) → PExp
 pathOf Kind.Property x y z N P = end
 pathOf Kind.Name x y z N P = end

@@ -1,24 +1,26 @@
 -- Which names a pattern uses, and that no other name bears on what its entries mean.
 -- Assumes nothing.
 use mathlib.Core.Path.{_≡_, refl, sym, subst}
-use mathlib.Core.Bool.{Bool, true, false}
-use mathlib.Core.Logic.{inl, inr}
+use mathlib.Core.Bool.{Bool, true, false, false≢true}
+use mathlib.Core.Logic.{_⊎_, inl, inr}
 use mathlib.Core.List.{List}
 use mathlib.Core.WellFounded.{WellFounded·induction}
-use Prim.Native.Nat.{ℕ, _<_}
+use Prim.Native.Nat.{ℕ, _≤_, _<_}
 use native.Mathlib.Nat.{lt-trans}
 use lib.WfN.{Nat·lt-wfRel}
 use lib.Dec.{eqb}
-use borrow.Author.Tests.{eq-eqb}
+use borrow.Author.Tests.{eq-eqb, eqb-true}
 use Rattle.pattern.specs.declared.table.Kind.{Kind}
 use Rattle.pattern.specs.Logic.Syntax.{NExp, PExp}
 use Rattle.pattern.specs.Logic.Semantics.{Model, Naming, Leads, Holds}
 use Rattle.pattern.specs.Logic.Coincidence.{OfNames, OfNamesP, same-holds, same-leads}
-use Rattle.pattern.specs.Checks.Range.{someBelow, some-at}
+use Rattle.pattern.specs.Checks.Range.{someBelow, some-at, none-at, none-below, some-found}
 use Rattle.pattern.specs.File.Entries.{entryAt}
 use Rattle.pattern.specs.File.Reading.{countOf}
 use Rattle.pattern.specs.File.Fields.{OfReferences, map-references}
-use Rattle.pattern.specs.File.Valid.{Valid, EarlierPath}
+use Rattle.pattern.specs.File.Types.{maxName}
+use Rattle.pattern.specs.File.Table.{endOfPath, formOf}
+use Rattle.pattern.specs.File.Valid.{Valid, Within, EarlierPath}
 use Rattle.pattern.specs.Meaning.Expression.{nodeOf, pathOf, nodeAt, pathAt, node-at, path-at, end-at}
 
 -- an entry of this kind with x for its first field has the name
@@ -76,38 +78,86 @@ module _ (Q : ℕ → Type 0) (N : ℕ → NExp) (P : ℕ → PExp) (x y z : ℕ
   path-names Kind.Fork own r = (r .0, r .1)
   path-names Kind.Unknown own r = (tt, tt)
 
-module _ {bs : List ℕ} {n : ℕ} (ok : Valid bs n) (Q : ℕ → Type 0) (used : (i : ℕ) → usesName bs i ≡ true → Q i) where
-  own-names : (k : ℕ) → k < n → (i : ℕ) → entryUses bs i k ≡ true → Q i
-  unfolding usesName
-  own-names k l i h = used i (some-at (entryUses bs i) (countOf bs) k (rw (ok .count-is) l) h)
+-- a reference of a pattern of n entries: the end of path, or an entry
+abbrev pub Reference : ℕ → ℕ → Type 0
+Reference n v = (v ≡ endOfPath) ⊎ (v < n)
 
-  references : (k : ℕ) → k < n → ((v : ℕ) → v < k → OfNames Q (nodeAt bs v) × OfNamesP Q (pathAt bs v))
+module _ {bs : List ℕ} {n : ℕ} (ok : Valid bs n) (i : ℕ) where
+  pub uses-at : (k : ℕ) → k < n → entryUses bs i k ≡ true → usesName bs i ≡ true
+  unfolding usesName
+  uses-at k l h = some-at (entryUses bs i) (countOf bs) k (rw (ok .count-is) l) h
+
+  pub unused-at : usesName bs i ≡ false → (k : ℕ) → k < n → entryUses bs i k ≡ false
+  unfolding usesName
+  unused-at h k l = none-at (entryUses bs i) (countOf bs) k h (rw (ok .count-is) l)
+
+  pub unused : ((k : ℕ) → k < n → entryUses bs i k ≡ false) → usesName bs i ≡ false
+  unfolding usesName
+  unused h = none-below (entryUses bs i) (countOf bs) (λ k l. h k (rw (ok .count-is) at l))
+
+  -- a name that is used is in range
+  pub used-in-range : usesName bs i ≡ true → i ≤ maxName
+  unfolding usesName
+  used-in-range h =
+      let r = some-found (entryUses bs i) (countOf bs) h in
+      let e = entryAt bs (r .0) in
+      named-in-range (e .kind) (e .x) (ok .entries (r .0) (subst (λ (m : ℕ). r .0 < m) (ok .count-is) (r .1)) .within .0) (r .2)
+    where
+      named-in-range : (κ : Kind) (x : ℕ) → Within (formOf κ .x) x → hasName κ x i ≡ true → i ≤ maxName
+      named-in-range Kind.Property x w u = absurd (false≢true u)
+      named-in-range Kind.Name x w u = rw (eqb-true x i u) at w
+      named-in-range Kind.Not x w u = absurd (false≢true u)
+      named-in-range Kind.Both x w u = absurd (false≢true u)
+      named-in-range Kind.After x w u = absurd (false≢true u)
+      named-in-range Kind.Same x w u = absurd (false≢true u)
+      named-in-range Kind.Differ x w u = absurd (false≢true u)
+      named-in-range Kind.Step x w u = absurd (false≢true u)
+      named-in-range Kind.Jump x w u = rw (eqb-true x i u) at w
+      named-in-range Kind.Test x w u = absurd (false≢true u)
+      named-in-range Kind.Fork x w u = absurd (false≢true u)
+      named-in-range Kind.Unknown x w u = absurd (false≢true u)
+
+module _ {bs : List ℕ} {n : ℕ} (ok : Valid bs n) (Q : ℕ → Type 0) (used : (i : ℕ) → usesName bs i ≡ true → Q i) where
+  -- of the expressions of an entry
+  abbrev OfEntry : ℕ → Type 0
+  OfEntry k = OfNames Q (nodeAt bs k) × OfNamesP Q (pathAt bs k)
+
+  end-names : (v : ℕ) → v ≡ endOfPath → OfNamesP Q (pathAt bs v)
+  end-names v e = subst (λ (r : ℕ). OfNamesP Q (pathAt bs r)) (sym e) (subst (OfNamesP Q) (sym (end-at bs)) (tt, tt))
+
+  references : (k : ℕ) → k < n → ((v : ℕ) → v < k → OfEntry v)
       → OfReferences (λ v. OfNames Q (nodeAt bs v)) (λ v. OfNamesP Q (pathAt bs v)) (entryAt bs k)
   references k l below = map-references (λ v g. below v (g .0) .0) path (entryAt bs k) (ok .entries k l .refers)
     where
       path : (v : ℕ) → EarlierPath bs k v → OfNamesP Q (pathAt bs v)
-      path v (inl e) = subst (λ (i : ℕ). OfNamesP Q (pathAt bs i)) (sym e) (subst (OfNamesP Q) (sym (end-at bs)) (tt, tt))
+      path v (inl e) = end-names v e
       path v (inr g) = below v (g .0) .1
 
-  -- what holds of every name that the pattern uses holds of every name in the expression of an entry
-  pub names-at : (k : ℕ) → k < n → OfNames Q (nodeAt bs k) × OfNamesP Q (pathAt bs k)
-  names-at k = WellFounded·induction (Nat·lt-wfRel .wf) {C = λ i. i < n → OfNames Q (nodeAt bs i) × OfNamesP Q (pathAt bs i)} k step
+  entry-names : (k : ℕ) → k < n → OfEntry k
+  entry-names k = WellFounded·induction (Nat·lt-wfRel .wf) {C = λ i. i < n → OfEntry i} k step
     where
-      step : (k : ℕ) → ((v : ℕ) → v < k → v < n → OfNames Q (nodeAt bs v) × OfNamesP Q (pathAt bs v)) → k < n
-          → OfNames Q (nodeAt bs k) × OfNamesP Q (pathAt bs k)
+      step : (k : ℕ) → ((v : ℕ) → v < k → v < n → OfEntry v) → k < n → OfEntry k
       step k below l =
           let e = entryAt bs k in
+          let own : (i : ℕ) → entryUses bs i k ≡ true → Q i = λ i h. used i (uses-at ok i k l h) in
           let r = references k l (λ v g. below v g (lt-trans g l)) in (
-            subst (OfNames Q) (sym (node-at ok k l)) (node-names Q (nodeAt bs) (pathAt bs) (e .x) (e .y) (e .z) (e .kind) (own-names k l) r),
-            subst (OfNamesP Q) (sym (path-at ok k l))
-                (path-names Q (nodeAt bs) (pathAt bs) (e .x) (e .y) (e .z) (e .kind) (own-names k l) r),
+            subst (OfNames Q) (sym (node-at ok k l)) (node-names Q (nodeAt bs) (pathAt bs) (e .x) (e .y) (e .z) (e .kind) own r),
+            subst (OfNamesP Q) (sym (path-at ok k l)) (path-names Q (nodeAt bs) (pathAt bs) (e .x) (e .y) (e .z) (e .kind) own r),
           )
+
+  -- what holds of every name that the pattern uses holds of every name in the expression of a node entry, and of a path reference
+  pub node-names-at : (k : ℕ) → k < n → OfNames Q (nodeAt bs k)
+  node-names-at k l = entry-names k l .0
+
+  pub path-names-at : (v : ℕ) → Reference n v → OfNamesP Q (pathAt bs v)
+  path-names-at v (inl e) = end-names v e
+  path-names-at v (inr l) = entry-names v l .1
 
 -- coincidence for a pattern: namings that agree on the names that it uses give its entries the same meaning
 module _ {bs : List ℕ} {n : ℕ} (ok : Valid bs n) (M : Model) (g h : Naming M)
     (agree : (i : ℕ) → usesName bs i ≡ true → g i ≡ h i) where
   pub node-coincides : (k : ℕ) → k < n → (u : M .Node) → Holds M g (nodeAt bs k) u ≡ Holds M h (nodeAt bs k) u
-  node-coincides k l u = same-holds M g h (nodeAt bs k) (names-at ok (λ i. g i ≡ h i) agree k l .0) u
+  node-coincides k l u = same-holds M g h (nodeAt bs k) (node-names-at ok (λ i. g i ≡ h i) agree k l) u
 
-  pub path-coincides : (k : ℕ) → k < n → (u v : M .Node) → Leads M g (pathAt bs k) u v ≡ Leads M h (pathAt bs k) u v
-  path-coincides k l u v = same-leads M g h (pathAt bs k) (names-at ok (λ i. g i ≡ h i) agree k l .1) u v
+  pub path-coincides : (v : ℕ) → Reference n v → (u w : M .Node) → Leads M g (pathAt bs v) u w ≡ Leads M h (pathAt bs v) u w
+  path-coincides v l u w = same-leads M g h (pathAt bs v) (path-names-at ok (λ i. g i ≡ h i) agree v l) u w

@@ -1,6 +1,5 @@
 -- `pattern::read::in_range` meets its contract: what each making function answers says whether the value is in its range.
 -- Assumes nothing.
-use mathlib.Core.Path.{sym}
 use Rattle.pattern.specs.File.Types.{maxProperty, maxName, maxAxis, maxChannel, made-within, out-beyond}
 use borrow.Author.Needs.{needs}
 use Rattle.pattern.proofs.read.in_range.Statement.{statement}
@@ -67,28 +66,44 @@ returns : tie.Need-returns
 returns c = rw (c .enum-told .given .1)
 
 returns-2 : tie.Need-returns-2
-returns-2 c = rw (c .before .before .before .enum-told2 .given .1) (sym (made-within maxProperty (c .before .before .before .before .before .args .value) _ (rw (c .enum-told3 .given .1) at (c .before .before .of .ensures))))
+returns-2 c = rw (c .before .before .before .enum-told2 .given .1)
+    (made-within maxProperty (c .before .before .before .before .before .args .value) _
+    (rw (c .enum-told3 .given .1) at (c .before .before .of .ensures)))
 
 returns-3 : tie.Need-returns-3
-returns-3 c = rw (c .before .before .before .enum-told2 .given .1) (sym (out-beyond maxProperty (c .before .before .before .before .before .args .value) (rw (c .enum-told4 .given .1) at (c .before .before .of .ensures))))
+returns-3 c = rw (c .before .before .before .enum-told2 .given .1)
+    (out-beyond maxProperty (c .before .before .before .before .before .args .value)
+    (rw (c .enum-told4 .given .1) at (c .before .before .of .ensures)))
 
 returns-4 : tie.Need-returns-4
-returns-4 c = rw (c .before .before .before .enum-told5 .given .1) (sym (made-within maxName (c .before .before .before .before .before .args .value) _ (rw (c .enum-told6 .given .1) at (c .before .before .of2 .ensures))))
+returns-4 c = rw (c .before .before .before .enum-told5 .given .1)
+    (made-within maxName (c .before .before .before .before .before .args .value) _
+    (rw (c .enum-told6 .given .1) at (c .before .before .of2 .ensures)))
 
 returns-5 : tie.Need-returns-5
-returns-5 c = rw (c .before .before .before .enum-told5 .given .1) (sym (out-beyond maxName (c .before .before .before .before .before .args .value) (rw (c .enum-told7 .given .1) at (c .before .before .of2 .ensures))))
+returns-5 c = rw (c .before .before .before .enum-told5 .given .1)
+    (out-beyond maxName (c .before .before .before .before .before .args .value)
+    (rw (c .enum-told7 .given .1) at (c .before .before .of2 .ensures)))
 
 returns-6 : tie.Need-returns-6
-returns-6 c = rw (c .before .before .before .enum-told8 .given .1) (sym (made-within maxAxis (c .before .before .before .before .before .args .value) _ (rw (c .enum-told9 .given .1) at (c .before .before .of3 .ensures))))
+returns-6 c = rw (c .before .before .before .enum-told8 .given .1)
+    (made-within maxAxis (c .before .before .before .before .before .args .value) _
+    (rw (c .enum-told9 .given .1) at (c .before .before .of3 .ensures)))
 
 returns-7 : tie.Need-returns-7
-returns-7 c = rw (c .before .before .before .enum-told8 .given .1) (sym (out-beyond maxAxis (c .before .before .before .before .before .args .value) (rw (c .enum-told10 .given .1) at (c .before .before .of3 .ensures))))
+returns-7 c = rw (c .before .before .before .enum-told8 .given .1)
+    (out-beyond maxAxis (c .before .before .before .before .before .args .value)
+    (rw (c .enum-told10 .given .1) at (c .before .before .of3 .ensures)))
 
 returns-8 : tie.Need-returns-8
-returns-8 c = rw (c .before .before .before .enum-told11 .given .1) (sym (made-within maxChannel (c .before .before .before .before .before .args .value) _ (rw (c .enum-told12 .given .1) at (c .before .before .of4 .ensures))))
+returns-8 c = rw (c .before .before .before .enum-told11 .given .1)
+    (made-within maxChannel (c .before .before .before .before .before .args .value) _
+    (rw (c .enum-told12 .given .1) at (c .before .before .of4 .ensures)))
 
 returns-9 : tie.Need-returns-9
-returns-9 c = rw (c .before .before .before .enum-told11 .given .1) (sym (out-beyond maxChannel (c .before .before .before .before .before .args .value) (rw (c .enum-told13 .given .1) at (c .before .before .of4 .ensures))))
+returns-9 c = rw (c .before .before .before .enum-told11 .given .1)
+    (out-beyond maxChannel (c .before .before .before .before .before .args .value)
+    (rw (c .enum-told13 .given .1) at (c .before .before .of4 .ensures)))
 
 returns-10 : tie.Need-returns-10
 returns-10 c = search needs

@@ -1,6 +1,7 @@
 -- `pattern::table::Kind::of` meets its contract: a number that no arm has is of no kind, `kind-beyond`.
 -- Assumes nothing.
 use mathlib.Core.Path.{sym}
+use borrow.Author.Count.{below-none, below-more}
 use Rattle.pattern.specs.File.Table.{kind-beyond}
 use borrow.Author.Needs.{needs}
 use Rattle.pattern.proofs.table.Kind.of.Statement.{statement}
@@ -41,19 +42,32 @@ returns-11 c = search needs
 
 returns-12 : tie.Need-returns-12
 returns-12 c =
+    let r = c .match .rest in
     sym
     (kind-beyond (c .before .args .number)
-    (c .match .rest .0 .0 .0 .0 .0 .0 .0 .0 .0 .0 .1)
-    (c .match .rest .0 .0 .0 .0 .0 .0 .0 .0 .0 .1)
-    (c .match .rest .0 .0 .0 .0 .0 .0 .0 .0 .1)
-    (c .match .rest .0 .0 .0 .0 .0 .0 .0 .1)
-    (c .match .rest .0 .0 .0 .0 .0 .0 .1)
-    (c .match .rest .0 .0 .0 .0 .0 .1)
-    (c .match .rest .0 .0 .0 .0 .1)
-    (c .match .rest .0 .0 .0 .1)
-    (c .match .rest .0 .0 .1)
-    (c .match .rest .0 .1)
-    (c .match .rest .1))
+    (below-more _ 10
+    (below-more _ 9
+    (below-more _ 8
+    (below-more _ 7
+    (below-more _ 6
+    (below-more _ 5
+    (below-more _ 4
+    (below-more _ 3
+    (below-more _ 2
+    (below-more _ 1
+    (below-more _ 0
+    (below-none _)
+    (r .0 .0 .0 .0 .0 .0 .0 .0 .0 .0 .1))
+    (r .0 .0 .0 .0 .0 .0 .0 .0 .0 .1))
+    (r .0 .0 .0 .0 .0 .0 .0 .0 .1))
+    (r .0 .0 .0 .0 .0 .0 .0 .1))
+    (r .0 .0 .0 .0 .0 .0 .1))
+    (r .0 .0 .0 .0 .0 .1))
+    (r .0 .0 .0 .0 .1))
+    (r .0 .0 .0 .1))
+    (r .0 .0 .1))
+    (r .0 .1))
+    (r .1)))
 
 pub of-spec : {M : Type 1} → statement M
 of-spec =

@@ -1,0 +1,45 @@
+// The names that a pattern uses.
+use crate::entry::Entry;
+use crate::table::Kind;
+use crate::types::Name;
+ghost use mathlib.Core.Path.{_≡_};
+ghost use Rattle.pattern.specs.Checks.Finding.{found};
+ghost use Rattle.pattern.specs.File.Reading.{readingOf};
+ghost use Rattle.pattern.specs.Meaning.Names.{hasName, usesName};
+
+// Whether an entry has the name: it is of kind name or jump, and its field x is the name.
+fn has_name(e: Entry, name: Name) -> bool
+    ensures { λ r. ⌜ r ≡ hasName (e .kind) (e .x) (name .number) ⌝ }
+{
+    let kind = e.kind;
+    match kind {
+        Kind::Name => e.x == name.number,
+        Kind::Jump => e.x == name.number,
+        Kind::Property => false,
+        Kind::Not => false,
+        Kind::Both => false,
+        Kind::After => false,
+        Kind::Same => false,
+        Kind::Differ => false,
+        Kind::Step => false,
+        Kind::Test => false,
+        Kind::Fork => false,
+        Kind::Unknown => false,
+    }
+}
+
+// Whether a pattern that was read, of n entries, uses the name: some entry has it, whether the root
+// reaches that entry or not.
+pub fn uses_name(p: &[u8], n: u8, name: Name) -> bool
+    requires { ⌜ readingOf (now p) ≡ found n ⌝ }
+    ensures { λ r. ⌜ r ≡ usesName (now (p .entry)) (name .number) ⌝ }
+{
+    let mut k = 0;
+    while k < n {
+        if has_name(Entry::at(p, k), name) {
+            return true;
+        }
+        k += 1;
+    }
+    false
+}
