@@ -16,8 +16,9 @@ ghost use mathlib.Core.Path.{_≡_};
 ghost use Prim.Native.Nat.{_+_, _*_, _≤_};
 ghost use lib.ListN.{length};
 ghost use Rattle.pattern.specs.Checks.Range.{eachBelow};
+ghost use Rattle.pattern.specs.File.Fields.{eachField};
 ghost use Rattle.pattern.specs.File.Entries.{sameBytes};
-ghost use Rattle.pattern.specs.File.Reading.{inRange, fieldsInRange, sortAt, earlierSort, refersBack, allReferBack, repeatsAt, headerCheck, entryCheck, readingOf, checkOf, findingOf};
+ghost use Rattle.pattern.specs.File.Reading.{inRange, sortAt, earlierSort, refersBack, fieldTest, repeatsAt, headerCheck, entryCheck, readingOf, checkOf, findingOf};
 
 // Document 01's refusals 1 to 8; those that have a place hold the entry's number.
 pub enum PatternRefusal {
@@ -29,6 +30,12 @@ pub enum PatternRefusal {
     Reference(u8),
     Repeat(u8),
     RootPath(u8),
+}
+
+// The tests that a field is put to: refusal 5 is for a value out of range, 6 for a reference.
+pub enum FieldTest {
+    Range,
+    Reference,
 }
 
 pub enum PatternCheck {
@@ -67,23 +74,6 @@ fn in_range(field: Field, value: u8) -> bool
         Field::Node => true,
         Field::Path => true,
     }
-}
-
-fn fields_in_range(e: Entry) -> bool
-    ensures { λ r. ⌜ r ≡ fieldsInRange e ⌝ }
-{
-    let kind = e.kind;
-    let form = kind.form();
-    let x = form.x;
-    let y = form.y;
-    let z = form.z;
-    if !in_range(x, e.x) {
-        return false;
-    }
-    if !in_range(y, e.y) {
-        return false;
-    }
-    in_range(z, e.z)
 }
 
 // The sort of entry k.
@@ -128,22 +118,33 @@ fn refers_back(p: &[u8], k: u8, field: Field, value: u8) -> bool
     }
 }
 
-fn all_refer_back(p: &[u8], k: u8, e: Entry) -> bool
+fn field_passes(p: &[u8], k: u8, test: FieldTest, field: Field, value: u8) -> bool
     requires { ⌜ 10 + 4 * k ≤ length (now p) ⌝ }
-    ensures { λ r. ⌜ r ≡ allReferBack (now (p .entry)) k e ⌝ }
+    ensures { λ r. ⌜ r ≡ fieldTest (now (p .entry)) k test field value ⌝ }
+{
+    match test {
+        FieldTest::Range => in_range(field, value),
+        FieldTest::Reference => refers_back(p, k, field, value),
+    }
+}
+
+// Whether the three fields of entry k, which is e, pass the test.
+fn fields_pass(p: &[u8], k: u8, test: FieldTest, e: Entry) -> bool
+    requires { ⌜ 10 + 4 * k ≤ length (now p) ⌝ }
+    ensures { λ r. ⌜ r ≡ eachField (fieldTest (now (p .entry)) k test) e ⌝ }
 {
     let kind = e.kind;
     let form = kind.form();
     let x = form.x;
     let y = form.y;
     let z = form.z;
-    if !refers_back(p, k, x, e.x) {
+    if !field_passes(p, k, test, x, e.x) {
         return false;
     }
-    if !refers_back(p, k, y, e.y) {
+    if !field_passes(p, k, test, y, e.y) {
         return false;
     }
-    refers_back(p, k, z, e.z)
+    field_passes(p, k, test, z, e.z)
 }
 
 // Whether entries j and k have the same four bytes.
@@ -214,10 +215,10 @@ fn check_entry(p: &[u8], k: u8) -> PatternCheck
     if kind.sort().is_neither() {
         return PatternCheck::Refused(PatternRefusal::Kind(k));
     }
-    if !fields_in_range(e) {
+    if !fields_pass(p, k, FieldTest::Range, e) {
         return PatternCheck::Refused(PatternRefusal::Field(k));
     }
-    if !all_refer_back(p, k, e) {
+    if !fields_pass(p, k, FieldTest::Reference, e) {
         return PatternCheck::Refused(PatternRefusal::Reference(k));
     }
     if repeats(p, k) {

@@ -8,7 +8,7 @@ use lib.Dec.{leb, ltb, eqb}
 use Rattle.wire.specs.Fields.{beginsWith, wordAt}
 use Rattle.pattern.specs.declared.table.Sort.{Sort}
 use Rattle.pattern.specs.declared.table.Field.{Field}
-use Rattle.pattern.specs.declared.entry.Entry.{Entry}
+use Rattle.pattern.specs.declared.read.FieldTest.{FieldTest}
 use Rattle.pattern.specs.declared.read.PatternRefusal.{PatternRefusal}
 use Rattle.pattern.specs.declared.read.PatternCheck.{PatternCheck}
 use Rattle.pattern.specs.declared.read.PatternRead.{PatternRead}
@@ -52,9 +52,6 @@ inRange Field.Channel v = leb v maxChannel
 inRange Field.Node v = true
 inRange Field.Path v = true
 
-abbrev pub fieldsInRange : Entry → Bool
-fieldsInRange e = eachField inRange e
-
 abbrev pub sortIf : Bool → Sort → Sort
 sortIf true s = s
 sortIf false s = Sort.Neither
@@ -76,8 +73,10 @@ refersBack bs k Field.Channel v = true
 refersBack bs k Field.Node v = isNode (earlierSort bs k v)
 refersBack bs k Field.Path v = eqb v endOfPath || isPath (earlierSort bs k v)
 
-abbrev pub allReferBack : List ℕ → ℕ → Entry → Bool
-allReferBack bs k e = eachField (refersBack bs k) e
+-- the two tests that the fields of entry k are put to
+abbrev pub fieldTest : List ℕ → ℕ → FieldTest → Field → ℕ → Bool
+fieldTest bs k FieldTest.Range F v = inRange F v
+fieldTest bs k FieldTest.Reference F v = refersBack bs k F v
 
 -- "equal to an earlier entry"
 abbrev pub repeatsAt : List ℕ → ℕ → Bool
@@ -89,11 +88,11 @@ kindCheck bs k = refusesIf (isNeither (sortAt bs k)) 4 k
 
 -- "5, a field out of range or an unused one not zero;"
 abbrev pub fieldCheck : List ℕ → ℕ → Check
-fieldCheck bs k = refusesIf (not (fieldsInRange (entryAt bs k))) 5 k
+fieldCheck bs k = refusesIf (not (eachField (fieldTest bs k FieldTest.Range) (entryAt bs k))) 5 k
 
 -- "6, a reference that isn't an earlier entry of the wanted sort (path end excepted);"
 abbrev pub referenceCheck : List ℕ → ℕ → Check
-referenceCheck bs k = refusesIf (not (allReferBack bs k (entryAt bs k))) 6 k
+referenceCheck bs k = refusesIf (not (eachField (fieldTest bs k FieldTest.Reference) (entryAt bs k))) 6 k
 
 -- "7, equal to an earlier entry."
 abbrev pub repeatCheck : List ℕ → ℕ → Check

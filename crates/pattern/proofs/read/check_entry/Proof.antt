@@ -6,9 +6,11 @@ use mathlib.Core.Bool.{Bool, true, false}
 use borrow.Author.Needs.{needs}
 use borrow.Author.Tests.{not-true, not-false}
 use Rattle.pattern.specs.declared.entry.Entry.{Entry}
+use Rattle.pattern.specs.declared.read.FieldTest.{FieldTest}
 use Rattle.pattern.specs.File.Table.{sortOf, isNeither}
+use Rattle.pattern.specs.File.Fields.{eachField}
 use Rattle.pattern.specs.File.Entries.{entryAt}
-use Rattle.pattern.specs.File.Reading.{sortAt, fieldsInRange, allReferBack, entryCheck}
+use Rattle.pattern.specs.File.Reading.{sortAt, fieldTest, entryCheck}
 use Rattle.pattern.proofs.Asked.{asked}
 use Rattle.pattern.proofs.read.check_entry.Statement.{statement}
 use Rattle.pattern.proofs.read.check_entry.Tie as tie
@@ -31,29 +33,33 @@ returns : tie.Need-returns
 unfolding entryCheck
 returns c = rw (sort-asked (c .before) true (c .if1 .taken))
 
-fields-in-range-requires : tie.Need-fields-in-range-requires
-fields-in-range-requires c κs = search needs
+fields-pass-requires : tie.Need-fields-pass-requires
+fields-pass-requires c κs = search needs
 
-fields-asked : (c : tie.After-fields-in-range) (t : Bool) → c .fields-in-range .result ≡ t
-    → let a = c .before .before .before .before .before .before .args in fieldsInRange (entryAt (a .p .now) (a .k)) ≡ t
-fields-asked c t h = asked fieldsInRange (c .before .before .before .before .at .ensures) (c .fields-in-range .ensures) h
+range-asked : (c : tie.After-fields-pass) (t : Bool) → c .fields-pass .result ≡ t
+    → let a = c .before .before .before .before .before .before .args in
+    eachField (fieldTest (a .p .now) (a .k) FieldTest.Range) (entryAt (a .p .now) (a .k)) ≡ t
+range-asked c t h =
+    let s = c .before .before .before .before in
+    let a = s .before .before .args in
+    asked (eachField (fieldTest (a .p .now) (a .k) FieldTest.Range)) (s .at .ensures) (c .fields-pass .ensures) h
 
 returns-2 : tie.Need-returns-2
 unfolding entryCheck
 returns-2 c =
     let f = c .before in
-    rw (sort-asked (f .before .before) false (f .before .if1 .left), fields-asked f false (not-true _ (c .if2 .taken)))
+    rw (sort-asked (f .before .before) false (f .before .if1 .left), range-asked f false (not-true _ (c .if2 .taken)))
 
-all-refer-back-requires : tie.Need-all-refer-back-requires
-all-refer-back-requires c κs = search needs
+fields-pass-requires-2 : tie.Need-fields-pass-requires-2
+fields-pass-requires-2 c κs = search needs
 
-references-asked : (c : tie.After-all-refer-back) (t : Bool) → c .all-refer-back .result ≡ t
+references-asked : (c : tie.After-fields-pass2) (t : Bool) → c .fields-pass2 .result ≡ t
     → let a = c .before .before .before .before .before .before .before .before .args in
-    allReferBack (a .p .now) (a .k) (entryAt (a .p .now) (a .k)) ≡ t
+    eachField (fieldTest (a .p .now) (a .k) FieldTest.Reference) (entryAt (a .p .now) (a .k)) ≡ t
 references-asked c t h =
     let s = c .before .before .before .before .before .before in
     let a = s .before .before .args in
-    asked (λ (e : Entry). allReferBack (a .p .now) (a .k) e) (s .at .ensures) (c .all-refer-back .ensures) h
+    asked (eachField (fieldTest (a .p .now) (a .k) FieldTest.Reference)) (s .at .ensures) (c .fields-pass2 .ensures) h
 
 returns-3 : tie.Need-returns-3
 unfolding entryCheck
@@ -62,7 +68,7 @@ returns-3 c =
     let f = r .before .before in
     rw (
       sort-asked (f .before .before) false (f .before .if1 .left),
-      fields-asked f true (not-false _ (r .before .if2 .left)),
+      range-asked f true (not-false _ (r .before .if2 .left)),
       references-asked r false (not-true _ (c .if3 .taken)),
     )
 
@@ -76,7 +82,7 @@ returns-4 c =
     let f = r .before .before in
     rw (
       sort-asked (f .before .before) false (f .before .if1 .left),
-      fields-asked f true (not-false _ (r .before .if2 .left)),
+      range-asked f true (not-false _ (r .before .if2 .left)),
       references-asked r true (not-false _ (c .before .before .if3 .left)),
       sym (c .before .repeats .ensures) ∙ c .if4 .taken,
     )
@@ -88,7 +94,7 @@ returns-5 c =
     let f = r .before .before in
     rw (
       sort-asked (f .before .before) false (f .before .if1 .left),
-      fields-asked f true (not-false _ (r .before .if2 .left)),
+      range-asked f true (not-false _ (r .before .if2 .left)),
       references-asked r true (not-false _ (c .before .before .if3 .left)),
       sym (c .before .repeats .ensures) ∙ c .if4 .left,
     )
@@ -101,9 +107,9 @@ check-entry-spec =
     sort-requires
     is-neither-requires
     returns
-    fields-in-range-requires
+    fields-pass-requires
     returns-2
-    all-refer-back-requires
+    fields-pass-requires-2
     returns-3
     repeats-requires
     returns-4
