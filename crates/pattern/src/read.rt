@@ -32,7 +32,8 @@ pub enum PatternRefusal {
     RootPath(u8),
 }
 
-// The tests that a field is put to: refusal 5 is for a value out of range, 6 for a reference.
+// The tests that a field is put to: that its value is in range, for refusal 5, and that a reference
+// goes back to an entry of its sort, for 6.
 pub enum FieldTest {
     Range,
     Reference,
@@ -118,6 +119,7 @@ fn refers_back(p: &[u8], k: u8, field: Field, value: u8) -> bool
     }
 }
 
+// Whether one field of entry k passes the test.
 fn field_passes(p: &[u8], k: u8, test: FieldTest, field: Field, value: u8) -> bool
     requires { ⌜ 10 + 4 * k ≤ length (now p) ⌝ }
     ensures { λ r. ⌜ r ≡ fieldTest (now (p .entry)) k test field value ⌝ }

@@ -2,9 +2,8 @@
 -- Assumes nothing.
 use mathlib.Core.Path.{_≡_, refl, sym, _∙_}
 use mathlib.Core.Bool.{Bool, true}
-use mathlib.Core.HLevel.{Σ-prop-path}
-use Prim.Native.Nat.{ℕ, suc, _<_}
-use native.Mathlib.Bridge.{le-prop}
+use Prim.Native.Nat.{ℕ, _<_}
+use native.Mathlib.Decide.{Fin·val-path}
 use Rattle.pattern.specs.Logic.Semantics.{Model, Naming}
 
 -- 01: "A data model has one or more nodes, edges per axis, a property set and four data values per node, and a node for every name. Data
@@ -28,7 +27,7 @@ NodeOf F = (u : ℕ) × (u < F .size)
 
 -- its number is all that there is to a node
 pub node-same : (F : Finite) {x y : NodeOf F} → x .0 ≡ y .0 → x ≡ y
-node-same F {x} {y} e = Σ-prop-path (λ (u : ℕ). le-prop {n = suc u} {m = F .size}) {u = x} {v = y} e
+node-same F {x} {y} e = Fin·val-path {n = F .size} {i = x} {j = y} e
 
 -- nodes are alike on a channel where their values are equal
 abbrev pub modelOf : Finite → Model

@@ -5,7 +5,8 @@ use Prim.Native.Nat.{ℕ}
 use Rattle.pattern.specs.declared.types.Comparison.{Comparison}
 
 mutual
-  -- NExp ::= p | i | ¬φ | φ ∧ ψ | ⟨α = β⟩ | ⟨α ≠ β⟩. 000: "we will always use * for = and ≠"; here * is a comparison.
+  -- NExp ::= p | i | ¬φ | φ ∧ ψ | ⟨α = β⟩ | ⟨α ≠ β⟩, and 002's ⟨a⟩φ before the last two. 000: "we will always use * for = and ≠"; here *
+  -- is a comparison.
   pub data NExp : Type 0 where
     property : ℕ → NExp
     name : ℕ → NExp

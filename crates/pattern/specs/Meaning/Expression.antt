@@ -22,7 +22,8 @@ use Rattle.pattern.specs.File.Valid.{Valid, EarlierNode, EarlierPath}
 abbrev pub end : PExp
 end = PExp.test truth
 
--- The expression of a node entry with these fields, given the expressions of the entries that it refers to. A path entry is no node, and what stands there is never asked.
+-- The expression of a node entry with these fields, given the expressions of the entries that it refers to. A path entry is no node, and
+-- what stands there is never asked.
 abbrev pub nodeOf : Kind → ℕ → ℕ → ℕ → (ℕ → NExp) → (ℕ → PExp) → NExp
 nodeOf Kind.Property x y z N P = NExp.property x
 nodeOf Kind.Name x y z N P = NExp.name x

@@ -1,4 +1,4 @@
--- `pattern::table::Kind::form` meets its contract: each arm gives its kind’s row.
+-- `pattern::table::Kind::form` meets its contract: each arm gives the row of its kind.
 -- Assumes nothing.
 use borrow.Author.Needs.{needs}
 use Rattle.pattern.proofs.table.Kind.form.Statement.{statement}
