@@ -3,4 +3,3 @@ pub mod Logic
 pub mod Checks
 pub mod File
 pub mod Meaning
-pub mod Readings

@@ -18,7 +18,7 @@ ghost use lib.ListN.{length};
 ghost use Rattle.pattern.specs.Checks.Range.{eachBelow};
 ghost use Rattle.pattern.specs.File.Fields.{eachField};
 ghost use Rattle.pattern.specs.File.Entries.{sameBytes};
-ghost use Rattle.pattern.specs.File.Reading.{inRange, sortAt, earlierSort, refersBack, fieldTest, repeatsAt, headerCheck, entryCheck, readingOf, checkOf, findingOf};
+ghost use Rattle.pattern.specs.File.Reading.{inRange, sortAt, earlierSort, refersBack, fieldTest, repeatsAt, headerCheck, entryCheck, readingOf, numberOf, placeOf, checkOf, findingOf};
 
 // Document 01's refusals 1 to 8; those that have a place hold the entry's number.
 pub enum PatternRefusal {
@@ -30,6 +30,40 @@ pub enum PatternRefusal {
     Reference(u8),
     Repeat(u8),
     RootPath(u8),
+}
+
+impl PatternRefusal {
+    // Document 01's number of the refusal.
+    pub fn number(self) -> u8
+        ensures { λ r. ⌜ r ≡ numberOf self ⌝ }
+    {
+        match self {
+            PatternRefusal::Mark => 1,
+            PatternRefusal::Version => 2,
+            PatternRefusal::Count => 3,
+            PatternRefusal::Kind(_) => 4,
+            PatternRefusal::Field(_) => 5,
+            PatternRefusal::Reference(_) => 6,
+            PatternRefusal::Repeat(_) => 7,
+            PatternRefusal::RootPath(_) => 8,
+        }
+    }
+
+    // Its place: the entry's number, or 0.
+    pub fn place(self) -> u8
+        ensures { λ r. ⌜ r ≡ placeOf self ⌝ }
+    {
+        match self {
+            PatternRefusal::Mark => 0,
+            PatternRefusal::Version => 0,
+            PatternRefusal::Count => 0,
+            PatternRefusal::Kind(k) => k,
+            PatternRefusal::Field(k) => k,
+            PatternRefusal::Reference(k) => k,
+            PatternRefusal::Repeat(k) => k,
+            PatternRefusal::RootPath(k) => k,
+        }
+    }
 }
 
 // The tests that a field is put to: that its value is in range, for refusal 5, and that a reference
@@ -78,7 +112,7 @@ fn in_range(field: Field, value: u8) -> bool
 }
 
 // The sort of entry k.
-fn sort_at(p: &[u8], k: u8) -> Sort
+pub fn sort_at(p: &[u8], k: u8) -> Sort
     requires { ⌜ 10 + 4 * k ≤ length (now p) ⌝ }
     ensures { λ r. ⌜ r ≡ sortAt (now (p .entry)) k ⌝ }
 {

@@ -212,3 +212,11 @@ valid-read bs n h =
     let count = h .count-is in
     rw
     (header-accepted bs (h .header), count, each-below (entryCheck bs) n (λ k l. entry-accepted bs k (h .entries k l)), h .root-node)
+
+-- the checks 1 to 8 pass exactly where the pattern is valid
+pub passes-valid : (bs : List ℕ) → patternCheck bs ≡ passes → Valid bs (countOf bs)
+unfolding readingOf
+passes-valid bs h = valid bs (countOf bs) (rw h)
+
+pub valid-passes : (bs : List ℕ) (n : ℕ) → Valid bs n → patternCheck bs ≡ passes
+valid-passes bs n ok = read-passes bs n (valid-read bs n ok) .0

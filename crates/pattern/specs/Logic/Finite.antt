@@ -9,7 +9,7 @@ use Rattle.pattern.specs.Logic.Semantics.{Model, Naming}
 -- 01: "A data model has one or more nodes, edges per axis, a property set and four data values per node, and a node for every name. Data
 -- values are whole numbers without an upper bound; a model is finite if its nodes are finitely many."
 pub record Finite : Type 0 where
-  -- the nodes are the numbers below it; that it is not 0 follows from `named`
+  -- the nodes are the numbers below it
   pub size : ℕ
   -- the axis leads from the first node to the second
   pub edge : ℕ → ℕ → ℕ → Bool
@@ -19,7 +19,10 @@ pub record Finite : Type 0 where
   pub value : ℕ → ℕ → ℕ
   -- the node of the name
   pub named : ℕ → ℕ
-  pub named-in : (i : ℕ) → named i < size
+
+-- "a node for every name", and so one or more nodes
+abbrev pub Named : Finite → Type 0
+Named F = (i : ℕ) → F .named i < F .size
 
 -- a node of a finite model
 abbrev pub NodeOf : Finite → Type 0
@@ -41,5 +44,5 @@ modelOf F = record {
   label = λ p x. F .label p (x .0) ≡ true;
 }
 
-abbrev pub namingOf : (F : Finite) → Naming (modelOf F)
-namingOf F i = (F .named i, F .named-in i)
+abbrev pub namingOf : (F : Finite) → Named F → Naming (modelOf F)
+namingOf F ok i = (F .named i, ok i)

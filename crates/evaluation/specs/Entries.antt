@@ -1,0 +1,59 @@
+-- The fields of an entry of a valid pattern whose kind is known, and 01's clause for it.
+-- Assumes nothing.
+use mathlib.Core.Path.{_≡_, _∙_, ap, subst}
+use mathlib.Core.Logic.{inl, inr, _↔_}
+use mathlib.Core.List.{List}
+use Prim.Native.Nat.{ℕ, _≤_, _<_}
+use native.Mathlib.Nat.{lt-of-lt-of-le}
+use Rattle.pattern.specs.declared.table.Kind.{Kind}
+use Rattle.pattern.specs.declared.table.Sort.{Sort}
+use Rattle.pattern.specs.File.Table.{sortOf, formOf}
+use Rattle.pattern.specs.File.Fields.{OfReference}
+use Rattle.pattern.specs.File.Entries.{entryAt}
+use Rattle.pattern.specs.File.Valid.{Valid, Within, EarlierNode, EarlierPath}
+use Rattle.pattern.specs.Logic.Finite.{Finite, Named, NodeOf, modelOf, namingOf}
+use Rattle.pattern.specs.Meaning.Clauses.{NodeMeans, PathMeans}
+use Rattle.pattern.specs.Meaning.Agreement.{published}
+use Rattle.evaluation.specs.Standing.{Holding, Leading}
+
+-- a reference to an entry before k is one of the pattern
+pub earlier-path : (bs : List ℕ) (k n r : ℕ) → k ≤ n → EarlierPath bs k r → EarlierPath bs n r
+earlier-path bs k n r l (inl e) = inl e
+earlier-path bs k n r l (inr h) = inr (lt-of-lt-of-le (h .0) l, h .1)
+
+module _ {bs : List ℕ} {n : ℕ} (valid : Valid bs n) (k : ℕ) (l : k < n) (κ : Kind) (kind : entryAt bs k .kind ≡ κ) where
+  -- its references stand before it and are of the sort that the table says
+  pub refers-as :
+      OfReference (EarlierNode bs k) (EarlierPath bs k) (formOf κ .x) (entryAt bs k .x)
+      × OfReference (EarlierNode bs k) (EarlierPath bs k) (formOf κ .y) (entryAt bs k .y)
+      × OfReference (EarlierNode bs k) (EarlierPath bs k) (formOf κ .z) (entryAt bs k .z)
+  refers-as =
+      subst (λ (κ′ : Kind).
+      OfReference (EarlierNode bs k) (EarlierPath bs k) (formOf κ′ .x) (entryAt bs k .x)
+      × OfReference (EarlierNode bs k) (EarlierPath bs k) (formOf κ′ .y) (entryAt bs k .y)
+      × OfReference (EarlierNode bs k) (EarlierPath bs k) (formOf κ′ .z) (entryAt bs k .z)) kind (valid .entries k l .refers)
+
+  -- its other fields are in range
+  pub within-as : Within (formOf κ .x) (entryAt bs k .x) × Within (formOf κ .y) (entryAt bs k .y) × Within (formOf κ .z) (entryAt bs k .z)
+  within-as =
+      subst (λ (κ′ : Kind). Within (formOf κ′ .x) (entryAt bs k .x) × Within (formOf κ′ .y) (entryAt bs k .y) × Within (formOf κ′ .z) (entryAt bs k .z)) kind
+      (valid .entries k l .within)
+
+  module _ (F : Finite) (ok : Named F) where
+    pub node-clause : sortOf κ ≡ Sort.Node → (u : NodeOf F)
+        → Holding F ok bs k u
+        ↔ NodeMeans (modelOf F) (namingOf F ok) (Holding F ok bs) (Leading F ok bs) κ (entryAt bs k .x) (entryAt bs k .y) (entryAt bs k .z) u
+    node-clause node u =
+        subst (λ (κ′ : Kind).
+        Holding F ok bs k u
+        ↔ NodeMeans (modelOf F) (namingOf F ok) (Holding F ok bs) (Leading F ok bs) κ′ (entryAt bs k .x) (entryAt bs k .y) (entryAt bs k .z) u) kind
+        (published (modelOf F) (namingOf F ok) valid .nodes k l (ap sortOf kind ∙ node) u)
+
+    pub path-clause : sortOf κ ≡ Sort.Path → (u v : NodeOf F)
+        → Leading F ok bs k u v
+        ↔ PathMeans (modelOf F) (namingOf F ok) (Holding F ok bs) (Leading F ok bs) κ (entryAt bs k .x) (entryAt bs k .y) (entryAt bs k .z) u v
+    path-clause path u v =
+        subst (λ (κ′ : Kind).
+        Leading F ok bs k u v
+        ↔ PathMeans (modelOf F) (namingOf F ok) (Holding F ok bs) (Leading F ok bs) κ′ (entryAt bs k .x) (entryAt bs k .y) (entryAt bs k .z) u v) kind
+        (published (modelOf F) (namingOf F ok) valid .paths k l (ap sortOf kind ∙ path) u v)

@@ -1,0 +1,12 @@
+pub mod Decision
+pub mod Judged
+pub mod Kinds
+pub mod Tables
+pub mod Members
+pub mod Standing
+pub mod Entries
+pub mod Sweep
+pub mod Nodes
+pub mod Evaluated
+pub mod Passed
+pub mod Known

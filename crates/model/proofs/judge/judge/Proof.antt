@@ -1,0 +1,102 @@
+-- `model::judge::judge` meets its contract: its finding is that of the definition, and so says what the definition says.
+-- Assumes nothing.
+use borrow.Author.Needs.{needs}
+use mathlib.Core.Path.{_≡_, refl, sym, _∙_, ap}
+use Prim.Native.Nat.{_≤_}
+use native.Mathlib.Nat.{le-refl}
+use lib.ListN.{length, take}
+use Rattle.pattern.specs.Checks.Finding.{found, passes}
+use Rattle.pattern.specs.File.Reading.{countOf}
+use Rattle.pattern.specs.File.Valid.{Valid, valid-read}
+use Rattle.model.specs.File.Valid.{ValidModel}
+use Rattle.model.specs.Judging.{areaNeed, judgingCheck, checkOf, checks-pass, judging-finds, judging-refuses, finding-means, front-length, cleared-front}
+use Rattle.model.proofs.judge.judge.Statement.{statement}
+use Rattle.model.proofs.judge.judge.Tie as tie
+use Rattle.model.proofs.judge.judge.Reads as reads
+use Rattle.model.proofs.judge.judge.Lts as lts
+use Rattle.model.proofs.judge.check_all.Reads as check-all-reads
+use Rattle.model.proofs.judge.evaluate.Reads as evaluate-reads
+use Rattle.model.proofs.judge.judged.Reads as judged-reads
+
+check-all-requires : tie.Need-check-all-requires
+check-all-requires c κs = search needs
+
+enum-known-refusal : tie.Need-enum-known-refusal
+enum-known-refusal c = search needs
+
+returns : tie.Need-returns
+returns c = let k = c .before .before .before in
+    let a = k .before .before .before .before .args in
+    let bs = a .p .now in
+    let ds = a .d .now in
+    let size = length (a .area .now) in
+    let e = sym (judging-refuses bs ds size _ _ (sym (k .check-all .ensures) ∙ ap checkOf (c .before .refusal .given .1))) in
+    (e, (refl, finding-means bs ds size _ e))
+
+enum-told : tie.Need-enum-told
+enum-told c = search needs
+
+-- nothing is to be refused where the function goes on
+checked : (c : tie.After-enum-told)
+    → let a = c .before .before .before .before .before .before .args in
+    judgingCheck (a .p .now) (a .d .now) (length (a .area .now)) ≡ passes
+checked c = sym (c .before .before .check-all .ensures) ∙ ap checkOf (c .enum-told .given .1)
+
+allowed : (c : tie.After-enum-told)
+    → let a = c .before .before .before .before .before .before .args in
+    Valid (a .p .now) (countOf (a .p .now)) × (areaNeed (a .p .now) ≤ length (a .area .now)) × ValidModel (a .d .now)
+allowed c =
+    let a = c .before .before .before .before .before .before .args in
+    checks-pass (a .p .now) (a .d .now) (length (a .area .now)) .0 (checked c)
+
+slice-relend-prefix-evaluate : tie.Need-slice-relend-prefix-evaluate
+slice-relend-prefix-evaluate c = allowed c .1
+
+front : (c : tie.After-evaluate-arg)
+    → let a = c .before .before .before .before .before .before .before .args in
+    length (take (areaNeed (a .p .now)) (a .area .now)) ≡ areaNeed (a .p .now)
+front c =
+    let a = c .before .before .before .before .before .before .before .args in
+    front-length (areaNeed (a .p .now)) (a .area .now) (allowed (c .before) .1)
+
+slice-aggregate-evaluate : tie.Need-slice-aggregate-evaluate
+slice-aggregate-evaluate c = sym (front c)
+
+evaluate-requires : tie.Need-evaluate-requires
+evaluate-requires c κs = let ok = allowed (c .before) in (valid-read _ _ (ok .0), (ok .2, rw (front c) (le-refl _)))
+
+judged-requires : tie.Need-judged-requires
+judged-requires c κs = search needs
+
+same-length : tie.Need-same-length
+same-length c = search needs
+
+returns-2 : tie.Need-returns-2
+returns-2 c = let v = c .before .before .before in
+    let t = v .before .before in
+    let a = t .before .before .before .before .before .before .args in
+    let bs = a .p .now in
+    let ds = a .d .now in
+    let area = a .area .now in
+    let e = c .judged .ensures ∙ ap found (v .evaluate .ensures .0) ∙ sym (judging-finds bs ds (length area) (checked t)) in (
+      e,
+      (
+        rw (c .judged .ensures) (cleared-front (areaNeed bs) area _ (allowed t .1) (v .evaluate .ensures .1)),
+        finding-means bs ds (length area) _ e,
+      ),
+    )
+
+pub judge-spec : {M : Type 1} → statement M
+judge-spec =
+    tie.close
+    (tie.spec
+    check-all-requires
+    enum-known-refusal
+    returns
+    enum-told
+    slice-relend-prefix-evaluate
+    slice-aggregate-evaluate
+    evaluate-requires
+    judged-requires
+    same-length
+    returns-2)

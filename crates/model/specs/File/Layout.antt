@@ -1,0 +1,77 @@
+-- The layout of a model file: its header, and where each field of its records stands.
+-- Assumes nothing.
+use mathlib.Core.List.{List, [], _∷_}
+use Prim.Native.Nat.{ℕ, _+_, _*_}
+use lib.ListN.{getD}
+use Rattle.wire.specs.Fields.{wordAt}
+use Rattle.nodeset.specs.Set.{width}
+
+-- 01: "Mark `DAT`"
+abbrev pub mark : List ℕ
+mark = 68 ∷ 65 ∷ 84 ∷ []
+
+-- 01: "node count n (one byte, 1 to 64)": as many nodes as a set can have
+abbrev pub nodeCount : List ℕ → ℕ
+nodeCount ds = getD ds 5 0
+
+abbrev pub maxNodes : ℕ
+maxNodes = width
+
+-- 01: "name count m (one byte, up to 128)"
+abbrev pub nameCount : List ℕ → ℕ
+nameCount ds = getD ds 6 0
+
+abbrev pub maxNames : ℕ
+maxNames = 128
+
+-- 01: "16-bit edge count k (up to 4096)"
+abbrev pub edgeCount : List ℕ → ℕ
+edgeCount ds = wordAt ds 7
+
+abbrev pub maxEdges : ℕ
+maxEdges = 4096
+
+-- ---- "Then n records of 12 bytes (32-bit little-endian property set, bit p for property p; four 16-bit values, channels 0 to 3 in
+-- order), m of 2 (name, node), k of 3 (from, axis, to)."
+-- where the record of node u begins, behind the header
+abbrev pub nodeRecord : ℕ → ℕ
+nodeRecord u = 9 + 12 * u
+
+-- where name record j begins, behind the nodes'
+abbrev pub nameRecord : List ℕ → ℕ → ℕ
+nameRecord ds j = nodeRecord (nodeCount ds) + 2 * j
+
+-- where edge record i begins, behind the names'
+abbrev pub edgeRecord : List ℕ → ℕ → ℕ
+edgeRecord ds i = nameRecord ds (nameCount ds) + 3 * i
+
+-- the length that the counts ask for: nothing stands behind the edges'
+abbrev pub lengthOf : List ℕ → ℕ
+lengthOf ds = edgeRecord ds (edgeCount ds)
+
+-- "32-bit little-endian property set" of node u
+abbrev pub propertySet : List ℕ → ℕ → ℕ
+propertySet ds u =
+    getD ds (nodeRecord u) 0 + getD ds (nodeRecord u + 1) 0 * 256 + getD ds (nodeRecord u + 2) 0 * 65536
+    + getD ds (nodeRecord u + 3) 0 * 16777216
+
+-- "four 16-bit values, channels 0 to 3 in order": the value of node u on channel e
+abbrev pub valueOn : List ℕ → ℕ → ℕ → ℕ
+valueOn ds e u = wordAt ds (nodeRecord u + 4 + 2 * e)
+
+-- "(name, node)": of name record j
+abbrev pub nameOf : List ℕ → ℕ → ℕ
+nameOf ds j = getD ds (nameRecord ds j) 0
+
+abbrev pub nodeOfRecord : List ℕ → ℕ → ℕ
+nodeOfRecord ds j = getD ds (nameRecord ds j + 1) 0
+
+-- "(from, axis, to)": of edge record i
+abbrev pub fromOf : List ℕ → ℕ → ℕ
+fromOf ds i = getD ds (edgeRecord ds i) 0
+
+abbrev pub axisOf : List ℕ → ℕ → ℕ
+axisOf ds i = getD ds (edgeRecord ds i + 1) 0
+
+abbrev pub toOf : List ℕ → ℕ → ℕ
+toOf ds i = getD ds (edgeRecord ds i + 2) 0

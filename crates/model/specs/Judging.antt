@@ -1,0 +1,162 @@
+-- Judging a model, 01's "Findings": the refusals in its order, the finding, what becomes of the working area, and what a finding says.
+-- Assumes nothing.
+use mathlib.Core.Path.{_≡_, refl, sym, _∙_, ap, subst}
+use mathlib.Core.Bool.{Bool, true, false}
+use mathlib.Core.Logic.{_↔_, Iff·symm, Iff·trans}
+use native.Mathlib.Omega.{arith}
+use mathlib.Core.List.{List, _++_}
+use Prim.Native.Nat.{ℕ, _-_, _≤_, _<_}
+use native.Mathlib.Nat.{min-eq-left}
+use lib.ListN.{length, replicate, take, drop, length-take}
+use lib.Dec.{ltb}
+use borrow.Author.Tests.{le-ltb, ltb-false}
+use Rattle.pattern.specs.Checks.Finding.{Finding, found, refused, Check, passes, refuses, refusesIf, _then_, unless, then-passes, refusesIf-passes, found-passes}
+use Rattle.pattern.specs.File.Reading.{countOf, patternCheck}
+use Rattle.pattern.specs.File.Valid.{Valid, passes-valid, valid-passes}
+use Rattle.pattern.specs.Meaning.Expression.{rootOf}
+use Rattle.nodeset.specs.declared.NodeSet.{NodeSet}
+use Rattle.nodeset.specs.Set.{width, has}
+use Rattle.evaluation.specs.Decision.{holdsTest}
+use Rattle.evaluation.specs.Tables.{IsSet}
+use Rattle.evaluation.specs.Standing.{areaBytes, Holding}
+use Rattle.evaluation.specs.Judged.{Judged, met, unmet, judgedBy, judgedOf, Says, judged-says, judged-same, holds-node}
+use Rattle.pattern.specs.File.Reading as reading
+use Rattle.model.specs.declared.judge.JudgeRefusal.{JudgeRefusal}
+use Rattle.model.specs.declared.judge.JudgeCheck.{JudgeCheck}
+use Rattle.model.specs.declared.judge.ModelFinding.{ModelFinding}
+use Rattle.model.specs.File.Checks as file
+use Rattle.model.specs.File.Contents.{modelFrom}
+use Rattle.model.specs.File.Checks.{modelCheck}
+use Rattle.model.specs.File.Valid.{ValidModel, model-valid, model-accepted, all-named}
+
+-- the bytes that judging a model wants of its working area for a pattern, and zeroes: 2,040
+abbrev pub areaNeed : List ℕ → ℕ
+areaNeed bs = areaBytes bs
+
+-- "9: working area under 2,040 bytes."
+abbrev pub areaCheck : List ℕ → ℕ → Check
+areaCheck bs size = refusesIf (ltb size (areaNeed bs)) 9 0
+
+-- "Refused 1 to 8 as above. 9: .. 10: .." and on, for a working area of this many bytes
+unfoldable pub judgingCheck : List ℕ → List ℕ → ℕ → Check
+judgingCheck bs ds size = patternCheck bs then areaCheck bs size then modelCheck ds
+
+-- "Judging a model gives met (lowest node, number of nodes) or unmet": of the root, in the data model that the file denotes
+unfoldable pub judgingOf : List ℕ → List ℕ → ℕ → Finding Judged
+judgingOf bs ds size = unless (judgingCheck bs ds size) (judgedOf (modelFrom ds) (rootOf bs))
+
+-- the first n bytes zero, and the rest unchanged
+unfoldable pub cleared : ℕ → List ℕ → List ℕ
+cleared n xs = replicate n 0 ++ drop n xs
+
+-- "A refusal leaves the area unchanged; a finding leaves its first 2,040 bytes zero and the rest unchanged."
+abbrev pub areaAfter : List ℕ → Finding Judged → List ℕ → List ℕ
+areaAfter bs (found j) area = cleared (areaNeed bs) area
+areaAfter bs (refused number place) area = area
+
+-- What a finding says: nothing was to be refused, and j is so of the root under the published satisfaction relation, in the data model
+-- that the bytes denote.
+pub record Judgement (bs ds : List ℕ) (size : ℕ) (j : Judged) : Type 0 where
+  pub pattern-valid : Valid bs (countOf bs)
+  pub area-long : areaNeed bs ≤ size
+  pub model-valid : ValidModel ds
+  pub says : Says (modelFrom ds) (all-named model-valid) (rootOf bs) j
+
+-- the checks pass exactly where nothing is to be refused
+pub checks-pass : (bs ds : List ℕ) (size : ℕ)
+    → (judgingCheck bs ds size ≡ passes) ↔ (Valid bs (countOf bs) × (areaNeed bs ≤ size) × ValidModel ds)
+unfolding judgingCheck
+checks-pass bs ds size = (apart, together)
+  where
+    apart : patternCheck bs then areaCheck bs size then modelCheck ds ≡ passes → Valid bs (countOf bs) × (areaNeed bs ≤ size) × ValidModel ds
+    apart h =
+        let a = then-passes (patternCheck bs) (areaCheck bs size then modelCheck ds) h in
+        let b = then-passes (areaCheck bs size) (modelCheck ds) (a .1) in
+        (passes-valid bs (a .0), ltb-false size (areaNeed bs) (refusesIf-passes _ 9 0 (b .0)), model-valid ds (b .1))
+
+    together : Valid bs (countOf bs) × (areaNeed bs ≤ size) × ValidModel ds → patternCheck bs then areaCheck bs size then modelCheck ds ≡ passes
+    together h = rw (valid-passes bs (countOf bs) (h .0), le-ltb size (areaNeed bs) (h .1), model-accepted ds (h .2))
+
+-- Demand 2 for models: judging finds j exactly where j is so.
+pub judging-says : (bs ds : List ℕ) (size : ℕ) (j : Judged) → (judgingOf bs ds size ≡ found j) ↔ Judgement bs ds size j
+unfolding judgingOf
+judging-says bs ds size j = (apart, together)
+  where
+    apart : unless (judgingCheck bs ds size) (judgedOf (modelFrom ds) (rootOf bs)) ≡ found j → Judgement bs ds size j
+    apart h =
+        let r = found-passes (judgingCheck bs ds size) (judgedOf (modelFrom ds) (rootOf bs)) j h in
+        let c = checks-pass bs ds size .0 (r .0) in
+        record {
+          pattern-valid = c .0;
+          area-long = c .1;
+          model-valid = c .2;
+          says = judged-says (modelFrom ds) (all-named (c .2)) (rootOf bs) j .0 (r .1);
+        }
+
+    together : Judgement bs ds size j → unless (judgingCheck bs ds size) (judgedOf (modelFrom ds) (rootOf bs)) ≡ found j
+    together h =
+        rw (checks-pass bs ds size .1 (h .pattern-valid, h .area-long, h .model-valid))
+        (ap found (judged-says (modelFrom ds) (all-named (h .model-valid)) (rootOf bs) j .1 (h .says)))
+
+-- ---- the code's answers, by 01's numbers and values
+abbrev pub refusalNumber : JudgeRefusal → ℕ
+refusalNumber (JudgeRefusal.Pattern refusal) = reading.numberOf refusal
+refusalNumber JudgeRefusal.Area = 9
+refusalNumber (JudgeRefusal.Model refusal) = file.numberOf refusal
+
+abbrev pub refusalPlace : JudgeRefusal → ℕ
+refusalPlace (JudgeRefusal.Pattern refusal) = reading.placeOf refusal
+refusalPlace JudgeRefusal.Area = 0
+refusalPlace (JudgeRefusal.Model refusal) = file.placeOf refusal
+
+abbrev pub checkOf : JudgeCheck → Check
+checkOf JudgeCheck.Passed = passes
+checkOf (JudgeCheck.Refused refusal) = refuses (refusalNumber refusal) (refusalPlace refusal)
+
+abbrev pub findingOf : ModelFinding → Finding Judged
+findingOf (ModelFinding.Met lowest number) = found (met lowest number)
+findingOf ModelFinding.Unmet = found unmet
+findingOf (ModelFinding.Refused refusal) = refused (refusalNumber refusal) (refusalPlace refusal)
+
+-- ---- from the set of the root to the finding
+same-tests : (a b : Bool) → (a ≡ true) ↔ (b ≡ true) → a ≡ b
+same-tests true b h = sym (h .0 refl)
+same-tests false true h = h .1 refl
+same-tests false false h = refl
+
+-- a set that has exactly the nodes where the root holds is judged as the definition says
+pub root-judged : (bs : List ℕ) {ds : List ℕ} (ok : ValidModel ds) (s : NodeSet)
+    → IsSet (modelFrom ds) (Holding (modelFrom ds) (all-named ok) bs (countOf bs - 1)) s → judgedBy width (has s) ≡ judgedOf (modelFrom ds) (rootOf bs)
+root-judged bs {ds} ok s set =
+    judged-same (modelFrom ds .size) width (has s) (holdsTest (modelFrom ds) (rootOf bs)) agree (ok .header .narrow) (λ k l. beyond k l (has s k) refl)
+  where
+    agree : (k : ℕ) → k < modelFrom ds .size → has s k ≡ holdsTest (modelFrom ds) (rootOf bs) k
+    agree k l = same-tests _ _ (Iff·trans (set k) (Iff·symm (holds-node (modelFrom ds) (all-named ok) (rootOf bs) k l)))
+
+    beyond : (k : ℕ) → modelFrom ds .size ≤ k → (b : Bool) → has s k ≡ b → has s k ≡ false
+    beyond k l true e = absurd (let r = set k .0 e in omega (arith, r .0))
+    beyond k l false e = e
+
+-- what is found where the checks pass, and where they don't
+pub judging-finds : (bs ds : List ℕ) (size : ℕ) → judgingCheck bs ds size ≡ passes
+    → judgingOf bs ds size ≡ found (judgedOf (modelFrom ds) (rootOf bs))
+unfolding judgingOf
+judging-finds bs ds size h = rw h
+
+pub judging-refuses : (bs ds : List ℕ) (size number place : ℕ) → judgingCheck bs ds size ≡ refuses number place
+    → judgingOf bs ds size ≡ refused number place
+unfolding judgingOf
+judging-refuses bs ds size number place h = rw h
+
+-- a finding that judging gives says what it says
+pub finding-means : (bs ds : List ℕ) (size : ℕ) (f : Finding Judged) → f ≡ judgingOf bs ds size → (j : Judged)
+    → (f ≡ found j) ↔ Judgement bs ds size j
+finding-means bs ds size f e j = subst (λ (g : Finding Judged). (g ≡ found j) ↔ Judgement bs ds size j) (sym e) (judging-says bs ds size j)
+
+-- the first n bytes, lent: how many they are, and where they are handed back zero
+pub front-length : (n : ℕ) (xs : List ℕ) → n ≤ length xs → length (take n xs) ≡ n
+front-length n xs l = length-take n xs ∙ min-eq-left l
+
+pub cleared-front : (n : ℕ) (xs ys : List ℕ) → n ≤ length xs → ys ≡ replicate (length (take n xs)) 0 → ys ++ drop n xs ≡ cleared n xs
+unfolding cleared
+cleared-front n xs ys l e = rw (e, front-length n xs l)

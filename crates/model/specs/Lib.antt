@@ -1,0 +1,5 @@
+-- In the order of reading.
+pub mod File
+pub mod Tables
+pub mod Judging
+pub mod Readings

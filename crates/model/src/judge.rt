@@ -1,0 +1,142 @@
+// Judging a model: document 01's refusals in its order, and then met, with the lowest node and the
+// number of nodes, or unmet.
+use crate::file::ModelCheck;
+use crate::file::ModelRefusal;
+use crate::file::check;
+use crate::tables::tabulate;
+use crate::tables::tabulate_values;
+use evaluation::rows::ALIKE_BYTES;
+use evaluation::rows::TABLE_BYTES;
+use nodeset::NodeSet;
+use pattern::read::PatternRead;
+use pattern::read::PatternRefusal;
+use pattern::read::read;
+ghost use mathlib.Core.Path.{_≡_};
+ghost use mathlib.Core.Logic.{_↔_};
+ghost use Prim.Native.Nat.{_≤_};
+ghost use lib.ListN.{length, replicate};
+ghost use Rattle.nodeset.specs.Set.{width, has};
+ghost use Rattle.pattern.specs.Checks.Finding.{found};
+ghost use Rattle.pattern.specs.File.Reading.{countOf, readingOf};
+ghost use Rattle.pattern.specs.Meaning.Expression.{rootOf};
+ghost use Rattle.evaluation.specs.Judged.{Judged, judgedBy, judgedOf};
+ghost use Rattle.model.specs.File.Contents.{modelFrom};
+ghost use Rattle.model.specs.File.Valid.{ValidModel};
+ghost use Rattle.model.specs.Judging.{areaNeed, judgingCheck, judgingOf, areaAfter, Judgement, refusalNumber, refusalPlace, checkOf, findingOf};
+
+// Document 01's refusals of judging a model: 1 to 8 of the pattern, 9 of the working area, 10 to 14
+// of the model file.
+pub enum JudgeRefusal {
+    Pattern(PatternRefusal),
+    Area,
+    Model(ModelRefusal),
+}
+
+impl JudgeRefusal {
+    // Document 01's number of the refusal.
+    pub fn number(self) -> u8
+        ensures { λ r. ⌜ r ≡ refusalNumber self ⌝ }
+    {
+        match self {
+            JudgeRefusal::Pattern(refusal) => refusal.number(),
+            JudgeRefusal::Area => 9,
+            JudgeRefusal::Model(refusal) => refusal.number(),
+        }
+    }
+
+    // Its place: the number of the entry or of the record, or 0.
+    pub fn place(self) -> u16
+        ensures { λ r. ⌜ r ≡ refusalPlace self ⌝ }
+    {
+        match self {
+            JudgeRefusal::Pattern(refusal) => refusal.place() as u16,
+            JudgeRefusal::Area => 0,
+            JudgeRefusal::Model(refusal) => refusal.place(),
+        }
+    }
+}
+
+pub enum JudgeCheck {
+    Passed,
+    Refused(JudgeRefusal),
+}
+
+// What judging a model finds: the root holds at some node, with the lowest such node and their
+// number; it holds at none; or the first refusal.
+pub enum ModelFinding {
+    Met(u8, u8),
+    Unmet,
+    Refused(JudgeRefusal),
+}
+
+// The bytes that judging wants of its working area, and zeroes: a node set for each entry, 2,040.
+pub const AREA: usize = NodeSet::BYTES * 255;
+
+// Refusals 1 to 14, for a working area of this many bytes.
+fn check_all(p: &[u8], d: &[u8], size: usize) -> JudgeCheck
+    ensures { λ r. ⌜ checkOf r ≡ judgingCheck (now (p .entry)) (now (d .entry)) size ⌝ }
+{
+    if let PatternRead::Refused(refusal) = read(p) {
+        return JudgeCheck::Refused(JudgeRefusal::Pattern(refusal));
+    }
+    if size < AREA {
+        return JudgeCheck::Refused(JudgeRefusal::Area);
+    }
+    if let ModelCheck::Refused(refusal) = check(d) {
+        return JudgeCheck::Refused(JudgeRefusal::Model(refusal));
+    }
+    JudgeCheck::Passed
+}
+
+// Zeroes the slice.
+fn clear(s: &mut [u8])
+    ensures { λ _. ⌜ now (s .exit) ≡ replicate (length (now (s .entry))) 0 ⌝ }
+{
+    let mut i = 0;
+    while i < s.len() {
+        s[i] = 0;
+        i += 1;
+    }
+}
+
+// The set of the nodes of the model at which the root holds. The work slice is left zero.
+fn evaluate(p: &[u8], d: &[u8], work: &mut [u8]) -> NodeSet
+    requires { ⌜ readingOf (now p) ≡ found (countOf (now p)) ⌝ }
+    requires { ⌜ ValidModel (now d) ⌝ }
+    requires { ⌜ areaNeed (now p) ≤ length (now work) ⌝ }
+    ensures set { λ r. ⌜ judgedBy width (has r) ≡ judgedOf (modelFrom (now (d .entry))) (rootOf (now (p .entry))) ⌝ }
+    ensures work { λ _. ⌜ now (work .exit) ≡ replicate (length (now (work .entry))) 0 ⌝ }
+{
+    let mut table = [0u8; TABLE_BYTES];
+    let mut alike = [0u8; ALIKE_BYTES];
+    tabulate(d, &mut table);
+    tabulate_values(d, &mut alike);
+    let s = evaluation::root_nodes(p, &table, &alike, work);
+    clear(work);
+    s
+}
+
+// The finding of the set of the nodes at which the root holds.
+fn judged(s: NodeSet) -> ModelFinding
+    ensures { λ r. ⌜ findingOf r ≡ found (judgedBy width (has s)) ⌝ }
+{
+    if s.is_empty() {
+        return ModelFinding::Unmet;
+    }
+    let lowest = s.lowest();
+    let number = s.count();
+    ModelFinding::Met(lowest, number)
+}
+
+// Judges a model: any bytes as pattern, as model and as working area give a finding or the first
+// refusal that applies.
+pub fn judge(p: &[u8], d: &[u8], area: &mut [u8]) -> ModelFinding
+    ensures finding { λ r. ⌜ findingOf r ≡ judgingOf (now (p .entry)) (now (d .entry)) (length (now (area .entry))) ⌝ }
+    ensures area { λ r. ⌜ now (area .exit) ≡ areaAfter (now (p .entry)) (findingOf r) (now (area .entry)) ⌝ }
+    ensures meaning { λ r. ⌜ ((j : Judged) → (findingOf r ≡ found j) ↔ Judgement (now (p .entry)) (now (d .entry)) (length (now (area .entry))) j) ⌝ }
+{
+    if let JudgeCheck::Refused(refusal) = check_all(p, d, area.len()) {
+        return ModelFinding::Refused(refusal);
+    }
+    judged(evaluate(p, d, &mut area[..AREA]))
+}

@@ -1,0 +1,5 @@
+pub mod Below
+pub mod Bits
+pub mod Set
+pub mod Stored
+pub mod Members

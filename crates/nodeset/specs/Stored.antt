@@ -1,0 +1,143 @@
+-- Sets of nodes in lent bytes: a table of sets, one after the other, each of eight bytes with the lowest first.
+-- Assumes nothing.
+use mathlib.Core.Path.{_≡_, refl, sym, ap, _∙_}
+use mathlib.Core.Bool.{Bool, true, false, _&&_, and-false}
+use mathlib.Core.List.{List, [], _∷_}
+use mathlib.Core.Logic.{_⊎_, inl, inr}
+use Prim.Native.Nat.{ℕ, zero, suc, _+_, _*_, _/_, _%_, _^_, _≤_, _<_}
+use native.Mathlib.Nat.{not-suc-le-zero, le-of-suc-le-suc, add-comm, add-zero, zero-add}
+use native.Mathlib.Omega.{arith}
+use borrow.Author.Tests.{ltb-true, ltb-false}
+use lib.Dec.{ltb}
+use lib.ListN.{length, getD, set, replicate, length-set}
+use lib.Pow.{mod-pow-add}
+use lib.Seq.{getD-set-same, getD-set-other}
+use Rattle.nodeset.specs.declared.NodeSet.{NodeSet}
+use Rattle.nodeset.specs.Bits.{on, on-none, on-rest}
+use Rattle.nodeset.specs.Set.{width, has}
+
+-- the bytes of a table of n sets: 01's "2,040 bytes" of working area are 255 of them
+abbrev pub tableBytes : ℕ → ℕ
+tableBytes n = 8 * n
+
+-- the number of 64 bits at place p
+abbrev pub bitsAt : List ℕ → ℕ → ℕ
+bitsAt xs p =
+    getD xs p 0 + getD xs (p + 1) 0 * 256 + getD xs (p + 2) 0 * 65536 + getD xs (p + 3) 0 * 16777216 + getD xs (p + 4) 0 * 4294967296
+    + getD xs (p + 5) 0 * 1099511627776 + getD xs (p + 6) 0 * 281474976710656 + getD xs (p + 7) 0 * 72057594037927936
+
+-- the eight bytes of a number
+abbrev pub bytesOf : ℕ → List ℕ
+bytesOf x =
+    x % 256 ∷ x / 256 % 256 ∷ x / 65536 % 256 ∷ x / 16777216 % 256 ∷ x / 4294967296 % 256 ∷ x / 1099511627776 % 256
+    ∷ x / 281474976710656 % 256 ∷ x / 72057594037927936 % 256 ∷ []
+
+-- bytes stored from place p + k on
+abbrev pub putFrom : List ℕ → ℕ → ℕ → List ℕ → List ℕ
+putFrom xs p k [] = xs
+putFrom xs p k (b ∷ bs) = putFrom (set xs (p + k) b) p (suc k) bs
+
+-- set i of a table
+unfoldable pub setAt : List ℕ → ℕ → NodeSet
+setAt xs i = record { bits = bitsAt xs (tableBytes i) }
+
+-- the table with s as its set i
+unfoldable pub put : List ℕ → ℕ → NodeSet → List ℕ
+put xs i s = putFrom xs (tableBytes i) 0 (bytesOf (s .bits))
+
+-- ---- bytes stored one after the other
+
+length-from : (xs : List ℕ) (p k : ℕ) (bs : List ℕ) → length (putFrom xs p k bs) ≡ length xs
+length-from xs p k [] = refl
+length-from xs p k (b ∷ bs) = length-from (set xs (p + k) b) p (suc k) bs ∙ length-set xs (p + k) b
+
+from-out : (xs : List ℕ) (p k : ℕ) (bs : List ℕ) (q : ℕ) → (q < p + k) ⊎ (p + k + length bs ≤ q) → getD (putFrom xs p k bs) q 0 ≡ getD xs q 0
+from-out xs p k [] q h = refl
+from-out xs p k (b ∷ bs) q (inl h) =
+    from-out (set xs (p + k) b) p (suc k) bs q (inl (omega (arith, h))) ∙ getD-set-other xs (p + k) q b 0 (λ e. omega (arith, h, e))
+from-out xs p k (b ∷ bs) q (inr h) =
+    from-out (set xs (p + k) b) p (suc k) bs q (inr (omega (arith, h))) ∙ getD-set-other xs (p + k) q b 0 (λ e. omega (arith, h, e))
+
+from-in : (xs : List ℕ) (p k : ℕ) (bs : List ℕ) (j : ℕ) → j < length bs → p + k + length bs ≤ length xs → getD (putFrom xs p k bs) (p + k + j) 0 ≡ getD bs j 0
+from-in xs p k [] j h l = absurd (not-suc-le-zero h)
+from-in xs p k (b ∷ bs) zero h l =
+    from-out (set xs (p + k) b) p (suc k) bs (p + k + 0) (inl (omega arith))
+    ∙ ap (λ (q : ℕ). getD (set xs (p + k) b) q 0) (add-zero (p + k)) ∙ getD-set-same xs (p + k) b 0 (omega (arith, l))
+from-in xs p k (b ∷ bs) (suc j) h l =
+    ap (λ (q : ℕ). getD (putFrom (set xs (p + k) b) p (suc k) bs) q 0) place
+    ∙ from-in (set xs (p + k) b) p (suc k) bs j (le-of-suc-le-suc h) (rw length-set (omega (arith, l)))
+  where
+    place : p + k + suc j ≡ p + suc k + j
+    place = omega arith
+
+-- ---- a number, stored and read
+
+-- the eight bytes of a number make its rest by 2 ^ 64
+bytes-rest : (x : ℕ) → bitsAt (bytesOf x) 0 ≡ x % 2 ^ 64
+bytes-rest x =
+    add (x / 72057594037927936 % 256 * 72057594037927936) (add (x / 281474976710656 % 256 * 281474976710656)
+    (add (x / 1099511627776 % 256 * 1099511627776) (add (x / 4294967296 % 256 * 4294967296)
+    (add (x / 16777216 % 256 * 16777216) (add (x / 65536 % 256 * 65536) (step 8) ∙ step 16) ∙ step 24) ∙ step 32) ∙ step 40) ∙ step 48) ∙ step 56
+  where
+    add : (c : ℕ) {a b : ℕ} → a ≡ b → a + c ≡ b + c
+    add c e = ap (λ (y : ℕ). y + c) e
+
+    step : (k : ℕ) → x % 2 ^ k + x / 2 ^ k % 2 ^ 8 * 2 ^ k ≡ x % 2 ^ (8 + k)
+    step k = add-comm (x % 2 ^ k) (x / 2 ^ k % 2 ^ 8 * 2 ^ k) ∙ sym (mod-pow-add x 8 k)
+
+-- equal bytes make equal numbers
+word-same : (xs ys : List ℕ) (p q : ℕ) → ((k : ℕ) → k < 8 → getD xs (p + k) 0 ≡ getD ys (q + k) 0) → bitsAt xs p ≡ bitsAt ys q
+word-same xs ys p q h =
+    rw (
+      sym (ap (λ (n : ℕ). getD xs n 0) (add-zero p)) ∙ h 0 (omega arith) ∙ ap (λ (n : ℕ). getD ys n 0) (add-zero q),
+      h 1 (omega arith),
+      h 2 (omega arith),
+      h 3 (omega arith),
+      h 4 (omega arith),
+      h 5 (omega arith),
+      h 6 (omega arith),
+      h 7 (omega arith),
+    ) refl
+
+word-put : (xs : List ℕ) (p x : ℕ) → p + 8 ≤ length xs → bitsAt (putFrom xs p 0 (bytesOf x)) p ≡ x % 2 ^ 64
+word-put xs p x h =
+    word-same (putFrom xs p 0 (bytesOf x)) (bytesOf x) p 0 (λ k l.
+    ap (λ (n : ℕ). getD (putFrom xs p 0 (bytesOf x)) (n + k) 0) (sym (add-zero p))
+    ∙ from-in xs p 0 (bytesOf x) k l (omega (arith, h)) ∙ ap (λ (n : ℕ). getD (bytesOf x) n 0) (sym (zero-add k)))
+    ∙ bytes-rest x
+
+-- ---- sets, stored and read
+
+pub length-put : (xs : List ℕ) (i : ℕ) (s : NodeSet) → length (put xs i s) ≡ length xs
+unfolding put
+length-put xs i s = length-from xs (tableBytes i) 0 (bytesOf (s .bits))
+
+pub put-same : (xs : List ℕ) (i : ℕ) (s : NodeSet) → tableBytes (i + 1) ≤ length xs → (u : ℕ) → has (setAt (put xs i s) i) u ≡ has s u
+unfolding has setAt put
+put-same xs i s h u = rw (word-put xs (tableBytes i) (s .bits) (omega (arith, h))) (low (ltb u width) refl)
+  where
+    low : (t : Bool) → ltb u width ≡ t → (t && on u (s .bits % 2 ^ 64)) ≡ (t && on u (s .bits))
+    low true e = on-rest 64 u (s .bits) (ltb-true u width e)
+    low false e = refl
+
+-- the bytes of two sets of a table are apart
+apart : (i j k : ℕ) → (j ≡ i → ⊥) → k < 8 → (tableBytes j + k < tableBytes i + 0) ⊎ (tableBytes i + 0 + 8 ≤ tableBytes j + k)
+apart i j k h l = go (ltb j i) refl
+  where
+    go : (t : Bool) → ltb j i ≡ t → (tableBytes j + k < tableBytes i + 0) ⊎ (tableBytes i + 0 + 8 ≤ tableBytes j + k)
+    go true e = inl (omega (arith, l, ltb-true j i e))
+    go false e = inr (omega (arith, h, ltb-false j i e))
+
+pub put-other : (xs : List ℕ) (i j : ℕ) (s : NodeSet) → (j ≡ i → ⊥) → setAt (put xs i s) j ≡ setAt xs j
+unfolding setAt put
+put-other xs i j s h =
+    ap (λ (w : ℕ). record { bits = w }) (word-same (putFrom xs (8 * i) 0 (bytesOf (s .bits))) xs (8 * j) (8 * j) (λ k l. from-out xs (8 * i) 0 (bytesOf (s .bits)) (8 * j + k) (apart i j k h l)))
+
+getD-zeros : (m k : ℕ) → _≡_ {A = ℕ} (getD (replicate m 0) k 0) 0
+getD-zeros zero k = refl
+getD-zeros (suc m) zero = refl
+getD-zeros (suc m) (suc k) = getD-zeros m k
+
+pub has-zeros : (m i u : ℕ) → has (setAt (replicate m 0) i) u ≡ false
+unfolding has setAt
+has-zeros m i u = rw (word-same (replicate m 0) [] (8 * i) 0 (λ k l. getD-zeros m (8 * i + k))) (rw (on-none u) (and-false (ltb u width)))

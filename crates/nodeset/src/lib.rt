@@ -1,0 +1,166 @@
+// Sets of nodes. Only this crate knows how a set is made of bits.
+ghost use mathlib.Core.Path.{_≡_};
+ghost use Prim.Native.Nat.{_+_, _≤_, _<_};
+ghost use lib.ListN.{length};
+ghost use Rattle.nodeset.specs.Set.{width, has, lowestOf, sizeOf, isEmpty, emptySet, below, only, insert, insertIf, union, meet, minus};
+ghost use Rattle.nodeset.specs.Stored.{tableBytes, bitsAt, setAt, put};
+
+// A set of the nodes below WIDTH: node u is in it where bit u is 1.
+pub struct NodeSet {
+    bits: u64,
+}
+
+impl NodeSet {
+    // The nodes that a set can have are the numbers below it.
+    pub const WIDTH: u8 = 64;
+
+    // The bytes of a stored set.
+    pub const BYTES: usize = 8;
+
+    pub fn empty() -> NodeSet
+        ensures { λ r. ⌜ r ≡ emptySet ⌝ }
+    {
+        NodeSet { bits: 0 }
+    }
+
+    // The nodes below n.
+    pub fn below(n: u8) -> NodeSet
+        requires { ⌜ n ≤ width ⌝ }
+        ensures { λ r. ⌜ r ≡ below n ⌝ }
+    {
+        if n < Self::WIDTH {
+            NodeSet {
+                bits: (1u64 << n) - 1,
+            }
+        } else {
+            NodeSet { bits: u64::MAX }
+        }
+    }
+
+    // The node u alone.
+    pub fn only(u: u8) -> NodeSet
+        requires { ⌜ u < width ⌝ }
+        ensures { λ r. ⌜ r ≡ only u ⌝ }
+    {
+        NodeSet { bits: 1u64 << u }
+    }
+
+    pub fn has(self, u: u8) -> bool
+        requires { ⌜ u < width ⌝ }
+        ensures { λ r. ⌜ r ≡ has self u ⌝ }
+    {
+        (self.bits >> u) % 2 == 1
+    }
+
+    pub fn insert(self, u: u8) -> NodeSet
+        requires { ⌜ u < width ⌝ }
+        ensures { λ r. ⌜ r ≡ insert self u ⌝ }
+    {
+        NodeSet {
+            bits: self.bits | (1u64 << u),
+        }
+    }
+
+    // The set with node u inserted if it is wanted.
+    pub fn insert_if(self, u: u8, wanted: bool) -> NodeSet
+        requires { ⌜ u < width ⌝ }
+        ensures { λ r. ⌜ r ≡ insertIf wanted self u ⌝ }
+    {
+        if wanted {
+            return self.insert(u);
+        }
+        self
+    }
+
+    pub fn union(self, other: NodeSet) -> NodeSet
+        ensures { λ r. ⌜ r ≡ union self other ⌝ }
+    {
+        NodeSet {
+            bits: self.bits | other.bits,
+        }
+    }
+
+    pub fn meet(self, other: NodeSet) -> NodeSet
+        ensures { λ r. ⌜ r ≡ meet self other ⌝ }
+    {
+        NodeSet {
+            bits: self.bits & other.bits,
+        }
+    }
+
+    pub fn minus(self, other: NodeSet) -> NodeSet
+        ensures { λ r. ⌜ r ≡ minus self other ⌝ }
+    {
+        NodeSet {
+            bits: self.bits ^ (self.bits & other.bits),
+        }
+    }
+
+    pub fn is_empty(self) -> bool
+        ensures { λ r. ⌜ r ≡ isEmpty self ⌝ }
+    {
+        self.bits == 0
+    }
+
+    // The lowest node, WIDTH if there is none.
+    pub fn lowest(self) -> u8
+        ensures { λ r. ⌜ r ≡ lowestOf self ⌝ }
+    {
+        u64::trailing_zeros(self.bits) as u8
+    }
+
+    pub fn count(self) -> u8
+        ensures { λ r. ⌜ r ≡ sizeOf self ⌝ }
+    {
+        u64::count_ones(self.bits) as u8
+    }
+
+    // Set i of a table.
+    pub fn load(table: &[u8], i: usize) -> NodeSet
+        requires { ⌜ tableBytes (i + 1) ≤ length (now table) ⌝ }
+        ensures { λ r. ⌜ r ≡ setAt (now (table .entry)) i ⌝ }
+    {
+        let at = Self::BYTES * i;
+        NodeSet {
+            bits: word(table, at),
+        }
+    }
+
+    // Set i of a table becomes this one.
+    pub fn store(self, table: &mut [u8], i: usize)
+        requires { ⌜ tableBytes (i + 1) ≤ length (now table) ⌝ }
+        ensures { λ r. ⌜ now (table .exit) ≡ put (now (table .entry)) i self ⌝ }
+    {
+        let at = Self::BYTES * i;
+        let bits = self.bits;
+        table[at] = (bits % 256) as u8;
+        table[at + 1] = (bits / 256 % 256) as u8;
+        table[at + 2] = (bits / 65536 % 256) as u8;
+        table[at + 3] = (bits / 16777216 % 256) as u8;
+        table[at + 4] = (bits / 4294967296 % 256) as u8;
+        table[at + 5] = (bits / 1099511627776 % 256) as u8;
+        table[at + 6] = (bits / 281474976710656 % 256) as u8;
+        table[at + 7] = (bits / 72057594037927936 % 256) as u8;
+    }
+}
+
+fn wide(byte: u8) -> u64
+    ensures { λ r. ⌜ (r ≡ byte) × (r < 256) ⌝ }
+{
+    byte as u64
+}
+
+// The 64-bit little-endian number at place i of the slice.
+fn word(s: &[u8], i: usize) -> u64
+    requires { ⌜ i + 8 ≤ length (now s) ⌝ }
+    ensures { λ r. ⌜ r ≡ bitsAt (now (s .entry)) i ⌝ }
+{
+    wide(s[i])
+        + wide(s[i + 1]) * 256
+        + wide(s[i + 2]) * 65536
+        + wide(s[i + 3]) * 16777216
+        + wide(s[i + 4]) * 4294967296
+        + wide(s[i + 5]) * 1099511627776
+        + wide(s[i + 6]) * 281474976710656
+        + wide(s[i + 7]) * 72057594037927936
+}
