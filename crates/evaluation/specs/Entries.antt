@@ -7,8 +7,9 @@ use Prim.Native.Nat.{ℕ, _≤_, _<_}
 use native.Mathlib.Nat.{lt-of-lt-of-le}
 use Rattle.pattern.specs.declared.table.Kind.{Kind}
 use Rattle.pattern.specs.declared.table.Sort.{Sort}
-use Rattle.pattern.specs.File.Table.{sortOf, formOf}
-use Rattle.pattern.specs.File.Fields.{OfReference}
+use Rattle.pattern.specs.declared.entry.Entry.{Entry}
+use Rattle.pattern.specs.File.Table.{sortOf}
+use Rattle.pattern.specs.File.Fields.{OfFields, OfReferences}
 use Rattle.pattern.specs.File.Entries.{entryAt}
 use Rattle.pattern.specs.File.Valid.{Valid, Within, EarlierNode, EarlierPath}
 use Rattle.pattern.specs.Logic.Finite.{Finite, Named, NodeOf, modelOf, namingOf}
@@ -21,23 +22,19 @@ pub earlier-path : (bs : List ℕ) (k n r : ℕ) → k ≤ n → EarlierPath bs 
 earlier-path bs k n r l (inl e) = inl e
 earlier-path bs k n r l (inr h) = inr (lt-of-lt-of-le (h .0) l, h .1)
 
+-- entry k with the kind written out
+abbrev withKind : List ℕ → ℕ → Kind → Entry
+withKind bs k κ = record { kind = κ; x = entryAt bs k .x; y = entryAt bs k .y; z = entryAt bs k .z }
+
 module _ {bs : List ℕ} {n : ℕ} (valid : Valid bs n) (k : ℕ) (l : k < n) (κ : Kind) (kind : entryAt bs k .kind ≡ κ) where
   -- its references stand before it and are of the sort that the table says
-  pub refers-as :
-      OfReference (EarlierNode bs k) (EarlierPath bs k) (formOf κ .x) (entryAt bs k .x)
-      × OfReference (EarlierNode bs k) (EarlierPath bs k) (formOf κ .y) (entryAt bs k .y)
-      × OfReference (EarlierNode bs k) (EarlierPath bs k) (formOf κ .z) (entryAt bs k .z)
+  pub refers-as : OfReferences (EarlierNode bs k) (EarlierPath bs k) (withKind bs k κ)
   refers-as =
-      subst (λ (κ′ : Kind).
-      OfReference (EarlierNode bs k) (EarlierPath bs k) (formOf κ′ .x) (entryAt bs k .x)
-      × OfReference (EarlierNode bs k) (EarlierPath bs k) (formOf κ′ .y) (entryAt bs k .y)
-      × OfReference (EarlierNode bs k) (EarlierPath bs k) (formOf κ′ .z) (entryAt bs k .z)) kind (valid .entries k l .refers)
+      subst (λ (κ′ : Kind). OfReferences (EarlierNode bs k) (EarlierPath bs k) (withKind bs k κ′)) kind (valid .entries k l .refers)
 
   -- its other fields are in range
-  pub within-as : Within (formOf κ .x) (entryAt bs k .x) × Within (formOf κ .y) (entryAt bs k .y) × Within (formOf κ .z) (entryAt bs k .z)
-  within-as =
-      subst (λ (κ′ : Kind). Within (formOf κ′ .x) (entryAt bs k .x) × Within (formOf κ′ .y) (entryAt bs k .y) × Within (formOf κ′ .z) (entryAt bs k .z)) kind
-      (valid .entries k l .within)
+  pub within-as : OfFields Within (withKind bs k κ)
+  within-as = subst (λ (κ′ : Kind). OfFields Within (withKind bs k κ′)) kind (valid .entries k l .within)
 
   module _ (F : Finite) (ok : Named F) where
     pub node-clause : sortOf κ ≡ Sort.Node → (u : NodeOf F)

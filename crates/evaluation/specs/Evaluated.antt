@@ -9,6 +9,7 @@ use native.Mathlib.Omega.{arith}
 use native.Mathlib.Nat.{lt-of-lt-of-le}
 use lib.ListN.{length}
 use Rattle.nodeset.specs.declared.NodeSet.{NodeSet}
+use Rattle.nodeset.specs.Members.{HasExactly}
 use Rattle.nodeset.specs.Set.{width, has, emptySet, insertIf, meet, minus}
 use Rattle.nodeset.specs.Stored.{tableBytes, setAt}
 use Rattle.pattern.specs.declared.types.Comparison.{Comparison}
@@ -95,7 +96,7 @@ module _ {bs table alike area : List ℕ} {k : ℕ} {e : Entry} {told : NodeKind
         nodes-both (w .model) (w .named) ok k (n .within) table (w .tabled) s t (kind-is NodeKind.Both is) ((rw (n .same) at h) w) ((rw (n .same) at g) w)
 
     pub evaluates-after : (s r : NodeSet) → told ≡ NodeKind.After → Evaluates bs table alike area known (e .y) s
-        → ((u : ℕ) → (has r u ≡ true) ↔ Before table (e .x) s u) → Evaluates bs table alike area known k r
+        → HasExactly (Before table (e .x) s) r → Evaluates bs table alike area known k r
     evaluates-after s r is h before w =
         nodes-after (w .model) (w .named) ok k (n .within) table (w .tabled) s r (kind-is NodeKind.After is) ((rw (n .same) at h) w) (rw (n .same) at before)
 

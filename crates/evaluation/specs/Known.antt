@@ -1,7 +1,7 @@
 -- Evaluating every node entry in the order of the entries: the bound of the sets that are known rises by one, and no other set changes.
 -- Assumes nothing.
-use mathlib.Core.Path.{_≡_, refl, sym, _∙_, ap, subst}
-use mathlib.Core.Bool.{Bool, true, false, false≢true}
+use mathlib.Core.Path.{_≡_, refl, sym, _∙_, subst}
+use mathlib.Core.Bool.{Bool, true, false}
 use mathlib.Core.Logic.{_↔_}
 use mathlib.Core.List.{List}
 use Prim.Native.Nat.{ℕ, _+_, _-_, _≤_, _<_}
@@ -14,7 +14,6 @@ use Rattle.nodeset.specs.declared.NodeSet.{NodeSet}
 use Rattle.nodeset.specs.Set.{has}
 use Rattle.nodeset.specs.Stored.{tableBytes, setAt, put, put-same, put-other}
 use Rattle.pattern.specs.declared.table.Sort.{Sort}
-use Rattle.pattern.specs.File.Table.{isNode}
 use Rattle.pattern.specs.File.Reading.{sortAt}
 use Rattle.pattern.specs.Logic.Finite.{Finite, Named}
 use Rattle.evaluation.specs.Tables.{IsSet, Tabled, Alike}
@@ -70,14 +69,6 @@ knows-none bs table alike area F ok tabled values j l n = absurd (not-suc-le-zer
 
 pub kept-more : (bs : List ℕ) (k : ℕ) (x y z : List ℕ) → OthersKept bs k x y → OthersKept bs (k + 1) y z → OthersKept bs (k + 1) x z
 kept-more bs k x y z a b i never = b i never ∙ a i (λ j l n e. never j (omega arith) n e)
-
-pub sort-node : (s : Sort) → isNode s ≡ true → s ≡ Sort.Node
-sort-node Sort.Node h = refl
-sort-node Sort.Path h = absurd (false≢true h)
-sort-node Sort.Neither h = absurd (false≢true h)
-
-pub sort-no-node : (s : Sort) → isNode s ≡ false → s ≡ Sort.Node → ⊥
-sort-no-node s h e = false≢true (sym h ∙ ap isNode e)
 
 -- what is lent, with an area of the same length
 pub lent-again : {bs table alike area : List ℕ} → Lent bs table alike area → (area′ : List ℕ) → length area′ ≡ length area

@@ -8,17 +8,10 @@ use native.Mathlib.Omega.{arith}
 use native.Mathlib.Nat.{not-suc-le-zero, eq-or-lt-of-le, le-of-suc-le-suc}
 use lib.Dec.{eqb}
 use borrow.Author.Tests.{eqb-true, eq-eqb, not-true}
-use Rattle.pattern.specs.Checks.Tests.{or-is-true, and-is-true}
+use Rattle.pattern.specs.Checks.Tests.{or-is-true, and-is-true, or-left, or-right}
 use Rattle.nodeset.specs.declared.NodeSet.{NodeSet}
 use Rattle.nodeset.specs.Set.{width, has, lowestOf, isEmpty, emptySet, only, insert, insertIf, union, meet, minus, has-empty, has-only, has-insert, has-union, has-meet, has-minus}
 use Rattle.nodeset.specs.Members.{HasExactly, withoutLowest, still-there, lowest-gone, empty-none, lowest-member, member-some}
-
-pub or-left : (a b : Bool) → a ≡ true → a || b ≡ true
-or-left a b h = rw h
-
-pub or-right : (a b : Bool) → b ≡ true → a || b ≡ true
-or-right true b h = refl
-or-right false b h = h
 
 still-gone : (s : NodeSet) (u : ℕ) → has s u ≡ false → has (withoutLowest s) u ≡ false
 still-gone s u h = rw (has-minus s (only (lowestOf s)) u, h)

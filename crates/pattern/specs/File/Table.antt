@@ -1,7 +1,7 @@
 -- 01's table of entries, "Pattern file": the kinds by number, which are nodes and which paths, and what the fields of each hold.
 -- Assumes nothing.
-use mathlib.Core.Path.{_≡_, refl}
-use mathlib.Core.Bool.{Bool, true, false}
+use mathlib.Core.Path.{_≡_, refl, sym, _∙_, ap}
+use mathlib.Core.Bool.{Bool, true, false, false≢true}
 use mathlib.Core.List.{List, [], _∷_}
 use Prim.Native.Nat.{ℕ, zero, suc, _<_}
 use native.Mathlib.Omega.{arith}
@@ -119,3 +119,12 @@ neither-no-node e = let z : _≡_ {A = ℕ} 0 1 = cc in omega arith
 
 pub neither-no-path : Sort.Neither ≡ Sort.Path → ⊥
 neither-no-path e = let z : _≡_ {A = ℕ} 0 1 = cc in omega arith
+
+-- what the test of a node says
+pub sort-node : (s : Sort) → isNode s ≡ true → s ≡ Sort.Node
+sort-node Sort.Node h = refl
+sort-node Sort.Path h = absurd (false≢true h)
+sort-node Sort.Neither h = absurd (false≢true h)
+
+pub sort-no-node : (s : Sort) → isNode s ≡ false → s ≡ Sort.Node → ⊥
+sort-no-node s h e = false≢true (sym h ∙ ap isNode e)

@@ -3,10 +3,11 @@
 use borrow.Author.Needs.{needs}
 use mathlib.Core.Path.{_≡_}
 use Rattle.pattern.specs.declared.table.Sort.{Sort}
+use Rattle.pattern.specs.File.Table.{sort-node, sort-no-node}
 use Rattle.pattern.specs.File.Reading.{sortAt}
 use borrow.Author.Tests.{not-true, not-false}
 use Rattle.evaluation.specs.Evaluated.{entry-long, set-long}
-use Rattle.evaluation.specs.Known.{sort-node, sort-no-node, learns-node, learns-path}
+use Rattle.evaluation.specs.Known.{learns-node, learns-path}
 use Rattle.evaluation.proofs.entries.learn.Statement.{statement}
 use Rattle.evaluation.proofs.entries.learn.Tie as tie
 use Rattle.evaluation.proofs.entries.learn.Reads as reads
