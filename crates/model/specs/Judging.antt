@@ -4,12 +4,11 @@ use mathlib.Core.Path.{_≡_, refl, sym, _∙_, ap, subst}
 use mathlib.Core.Bool.{Bool, true, false}
 use mathlib.Core.Logic.{_↔_, Iff·symm, Iff·trans}
 use native.Mathlib.Omega.{arith}
-use mathlib.Core.List.{List, _++_}
+use mathlib.Core.List.{List}
 use Prim.Native.Nat.{ℕ, _-_, _≤_, _<_}
-use native.Mathlib.Nat.{min-eq-left}
-use lib.ListN.{length, replicate, take, drop, length-take}
 use lib.Dec.{ltb}
 use borrow.Author.Tests.{le-ltb, ltb-false}
+use Rattle.wire.specs.Cleared.{cleared}
 use Rattle.pattern.specs.Checks.Finding.{Finding, found, refused, Check, passes, refuses, refusesIf, _then_, unless, then-passes, refusesIf-passes, found-passes}
 use Rattle.pattern.specs.File.Reading.{countOf, patternCheck}
 use Rattle.pattern.specs.File.Valid.{Valid, passes-valid, valid-passes}
@@ -44,10 +43,6 @@ judgingCheck bs ds size = patternCheck bs then areaCheck bs size then modelCheck
 -- "Judging a model gives met (lowest node, number of nodes) or unmet": of the root, in the data model that the file denotes
 unfoldable pub judgingOf : List ℕ → List ℕ → ℕ → Finding Judged
 judgingOf bs ds size = unless (judgingCheck bs ds size) (judgedOf (modelFrom ds) (rootOf bs))
-
--- the first n bytes zero, and the rest unchanged
-unfoldable pub cleared : ℕ → List ℕ → List ℕ
-cleared n xs = replicate n 0 ++ drop n xs
 
 -- "A refusal leaves the area unchanged; a finding leaves its first 2,040 bytes zero and the rest unchanged."
 abbrev pub areaAfter : List ℕ → Finding Judged → List ℕ → List ℕ
@@ -152,11 +147,3 @@ judging-refuses bs ds size number place h = rw h
 pub finding-means : (bs ds : List ℕ) (size : ℕ) (f : Finding Judged) → f ≡ judgingOf bs ds size → (j : Judged)
     → (f ≡ found j) ↔ Judgement bs ds size j
 finding-means bs ds size f e j = subst (λ (g : Finding Judged). (g ≡ found j) ↔ Judgement bs ds size j) (sym e) (judging-says bs ds size j)
-
--- the first n bytes, lent: how many they are, and where they are handed back zero
-pub front-length : (n : ℕ) (xs : List ℕ) → n ≤ length xs → length (take n xs) ≡ n
-front-length n xs l = length-take n xs ∙ min-eq-left l
-
-pub cleared-front : (n : ℕ) (xs ys : List ℕ) → n ≤ length xs → ys ≡ replicate (length (take n xs)) 0 → ys ++ drop n xs ≡ cleared n xs
-unfolding cleared
-cleared-front n xs ys l e = rw (e, front-length n xs l)

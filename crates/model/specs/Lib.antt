@@ -2,4 +2,3 @@
 pub mod File
 pub mod Tables
 pub mod Judging
-pub mod Readings

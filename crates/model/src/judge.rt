@@ -11,6 +11,7 @@ use nodeset::NodeSet;
 use pattern::read::PatternRead;
 use pattern::read::PatternRefusal;
 use pattern::read::read;
+use wire::clear;
 ghost use mathlib.Core.Path.{_≡_};
 ghost use mathlib.Core.Logic.{_↔_};
 ghost use Prim.Native.Nat.{_≤_};
@@ -86,17 +87,6 @@ fn check_all(p: &[u8], d: &[u8], size: usize) -> JudgeCheck
         return JudgeCheck::Refused(JudgeRefusal::Model(refusal));
     }
     JudgeCheck::Passed
-}
-
-// Zeroes the slice.
-fn clear(s: &mut [u8])
-    ensures { λ _. ⌜ now (s .exit) ≡ replicate (length (now (s .entry))) 0 ⌝ }
-{
-    let mut i = 0;
-    while i < s.len() {
-        s[i] = 0;
-        i += 1;
-    }
 }
 
 // The set of the nodes of the model at which the root holds. The work slice is left zero.

@@ -3,15 +3,14 @@
 use mathlib.Core.Path.{_≡_, refl, sym, ap, _∙_}
 use mathlib.Core.Bool.{Bool, true, false, _&&_, and-false}
 use mathlib.Core.List.{List, [], _∷_}
-use mathlib.Core.Logic.{_⊎_, inl, inr}
 use Prim.Native.Nat.{ℕ, zero, suc, _+_, _*_, _/_, _%_, _^_, _≤_, _<_}
-use native.Mathlib.Nat.{not-suc-le-zero, le-of-suc-le-suc, add-comm, add-zero, zero-add}
+use native.Mathlib.Nat.{add-comm, add-zero, zero-add}
 use native.Mathlib.Omega.{arith}
-use borrow.Author.Tests.{ltb-true, ltb-false}
+use borrow.Author.Tests.{ltb-true}
 use lib.Dec.{ltb}
-use lib.ListN.{length, getD, set, replicate, length-set}
+use lib.ListN.{length, getD, replicate}
 use lib.Pow.{mod-pow-add}
-use lib.Seq.{getD-set-same, getD-set-other}
+use Rattle.wire.specs.Blocks.{putFrom, length-from, from-out, from-in, apart}
 use Rattle.nodeset.specs.declared.NodeSet.{NodeSet}
 use Rattle.nodeset.specs.Bits.{on, on-none, on-rest}
 use Rattle.nodeset.specs.Set.{width, has}
@@ -32,11 +31,6 @@ bytesOf x =
     x % 256 ∷ x / 256 % 256 ∷ x / 65536 % 256 ∷ x / 16777216 % 256 ∷ x / 4294967296 % 256 ∷ x / 1099511627776 % 256
     ∷ x / 281474976710656 % 256 ∷ x / 72057594037927936 % 256 ∷ []
 
--- bytes stored from place p + k on
-abbrev pub putFrom : List ℕ → ℕ → ℕ → List ℕ → List ℕ
-putFrom xs p k [] = xs
-putFrom xs p k (b ∷ bs) = putFrom (set xs (p + k) b) p (suc k) bs
-
 -- set i of a table
 unfoldable pub setAt : List ℕ → ℕ → NodeSet
 setAt xs i = record { bits = bitsAt xs (tableBytes i) }
@@ -44,31 +38,6 @@ setAt xs i = record { bits = bitsAt xs (tableBytes i) }
 -- the table with s as its set i
 unfoldable pub put : List ℕ → ℕ → NodeSet → List ℕ
 put xs i s = putFrom xs (tableBytes i) 0 (bytesOf (s .bits))
-
--- ---- bytes stored one after the other
-
-length-from : (xs : List ℕ) (p k : ℕ) (bs : List ℕ) → length (putFrom xs p k bs) ≡ length xs
-length-from xs p k [] = refl
-length-from xs p k (b ∷ bs) = length-from (set xs (p + k) b) p (suc k) bs ∙ length-set xs (p + k) b
-
-from-out : (xs : List ℕ) (p k : ℕ) (bs : List ℕ) (q : ℕ) → (q < p + k) ⊎ (p + k + length bs ≤ q) → getD (putFrom xs p k bs) q 0 ≡ getD xs q 0
-from-out xs p k [] q h = refl
-from-out xs p k (b ∷ bs) q (inl h) =
-    from-out (set xs (p + k) b) p (suc k) bs q (inl (omega (arith, h))) ∙ getD-set-other xs (p + k) q b 0 (λ e. omega (arith, h, e))
-from-out xs p k (b ∷ bs) q (inr h) =
-    from-out (set xs (p + k) b) p (suc k) bs q (inr (omega (arith, h))) ∙ getD-set-other xs (p + k) q b 0 (λ e. omega (arith, h, e))
-
-from-in : (xs : List ℕ) (p k : ℕ) (bs : List ℕ) (j : ℕ) → j < length bs → p + k + length bs ≤ length xs → getD (putFrom xs p k bs) (p + k + j) 0 ≡ getD bs j 0
-from-in xs p k [] j h l = absurd (not-suc-le-zero h)
-from-in xs p k (b ∷ bs) zero h l =
-    from-out (set xs (p + k) b) p (suc k) bs (p + k + 0) (inl (omega arith))
-    ∙ ap (λ (q : ℕ). getD (set xs (p + k) b) q 0) (add-zero (p + k)) ∙ getD-set-same xs (p + k) b 0 (omega (arith, l))
-from-in xs p k (b ∷ bs) (suc j) h l =
-    ap (λ (q : ℕ). getD (putFrom (set xs (p + k) b) p (suc k) bs) q 0) place
-    ∙ from-in (set xs (p + k) b) p (suc k) bs j (le-of-suc-le-suc h) (rw length-set (omega (arith, l)))
-  where
-    place : p + k + suc j ≡ p + suc k + j
-    place = omega arith
 
 -- ---- a number, stored and read
 
@@ -119,14 +88,6 @@ put-same xs i s h u = rw (word-put xs (tableBytes i) (s .bits) (omega (arith, h)
     low : (t : Bool) → ltb u width ≡ t → (t && on u (s .bits % 2 ^ 64)) ≡ (t && on u (s .bits))
     low true e = on-rest 64 u (s .bits) (ltb-true u width e)
     low false e = refl
-
--- the bytes of two sets of a table are apart
-apart : (i j k : ℕ) → (j ≡ i → ⊥) → k < 8 → (tableBytes j + k < tableBytes i + 0) ⊎ (tableBytes i + 0 + 8 ≤ tableBytes j + k)
-apart i j k h l = go (ltb j i) refl
-  where
-    go : (t : Bool) → ltb j i ≡ t → (tableBytes j + k < tableBytes i + 0) ⊎ (tableBytes i + 0 + 8 ≤ tableBytes j + k)
-    go true e = inl (omega (arith, l, ltb-true j i e))
-    go false e = inr (omega (arith, h, ltb-false j i e))
 
 pub put-other : (xs : List ℕ) (i j : ℕ) (s : NodeSet) → (j ≡ i → ⊥) → setAt (put xs i s) j ≡ setAt xs j
 unfolding setAt put

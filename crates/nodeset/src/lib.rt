@@ -3,7 +3,7 @@ ghost use mathlib.Core.Path.{_≡_};
 ghost use Prim.Native.Nat.{_+_, _≤_, _<_};
 ghost use lib.ListN.{length};
 ghost use Rattle.nodeset.specs.Set.{width, has, lowestOf, sizeOf, isEmpty, emptySet, below, only, insert, insertIf, union, meet, minus};
-ghost use Rattle.nodeset.specs.Stored.{tableBytes, bitsAt, setAt, put};
+ghost use Rattle.nodeset.specs.Stored.{tableBytes, bitsAt, bytesOf, setAt, put};
 
 // A set of the nodes below WIDTH: node u is in it where bit u is 1.
 pub struct NodeSet {
@@ -131,16 +131,24 @@ impl NodeSet {
         requires { ⌜ tableBytes (i + 1) ≤ length (now table) ⌝ }
         ensures { λ r. ⌜ now (table .exit) ≡ put (now (table .entry)) i self ⌝ }
     {
-        let at = Self::BYTES * i;
+        wire::put_block(table, i, self.bytes());
+    }
+
+    // The eight bytes of a set, the lowest first.
+    fn bytes(self) -> [u8; 8]
+        ensures { λ r. ⌜ r ≡ bytesOf (self .bits) ⌝ }
+    {
         let bits = self.bits;
-        table[at] = (bits % 256) as u8;
-        table[at + 1] = (bits / 256 % 256) as u8;
-        table[at + 2] = (bits / 65536 % 256) as u8;
-        table[at + 3] = (bits / 16777216 % 256) as u8;
-        table[at + 4] = (bits / 4294967296 % 256) as u8;
-        table[at + 5] = (bits / 1099511627776 % 256) as u8;
-        table[at + 6] = (bits / 281474976710656 % 256) as u8;
-        table[at + 7] = (bits / 72057594037927936 % 256) as u8;
+        [
+            (bits % 256) as u8,
+            (bits / 256 % 256) as u8,
+            (bits / 65536 % 256) as u8,
+            (bits / 16777216 % 256) as u8,
+            (bits / 4294967296 % 256) as u8,
+            (bits / 1099511627776 % 256) as u8,
+            (bits / 281474976710656 % 256) as u8,
+            (bits / 72057594037927936 % 256) as u8,
+        ]
     }
 }
 

@@ -1,7 +1,7 @@
 // Document 01's table of entries: the kinds, which of them are nodes and which are paths, and what
 // the three fields of each hold.
 ghost use mathlib.Core.Path.{_≡_};
-ghost use Rattle.pattern.specs.File.Table.{kindOf, sortOf, formOf, isNode, isPath, isNeither};
+ghost use Rattle.pattern.specs.File.Table.{kindOf, kindNumber, sameKind, sortOf, formOf, isNode, isPath, isNeither};
 
 // Document 01's kinds, in its words. In the words of the sources: `After` is the modal diamond, `Same`
 // and `Differ` are the data comparisons, `Jump` goes to a named node, `Fork` is the union of paths,
@@ -68,6 +68,33 @@ impl Kind {
             11 => Kind::Fork,
             _ => Kind::Unknown,
         }
+    }
+
+    // Document 01's number of the kind; 0 is of none.
+    pub fn number(self) -> u8
+        ensures { λ r. ⌜ r ≡ kindNumber self ⌝ }
+    {
+        match self {
+            Kind::Property => 1,
+            Kind::Name => 2,
+            Kind::Not => 3,
+            Kind::Both => 4,
+            Kind::After => 5,
+            Kind::Same => 6,
+            Kind::Differ => 7,
+            Kind::Step => 8,
+            Kind::Jump => 9,
+            Kind::Test => 10,
+            Kind::Fork => 11,
+            Kind::Unknown => 0,
+        }
+    }
+
+    // Whether it is the other kind.
+    pub fn is(self, other: Kind) -> bool
+        ensures { λ r. ⌜ r ≡ sameKind self other ⌝ }
+    {
+        self.number() == other.number()
     }
 
     pub fn sort(self) -> Sort

@@ -1,5 +1,6 @@
-// Runs the bench program on the folders of samples, whose table is docs/SAMPLES.md, and prints a line
-// for each: the folder's name, a colon and what the bench program prints.
+// Runs the bench program on the folders of samples that samples.txt lists, whose table is
+// docs/SAMPLES.md, and prints a line for each: the folder's name, a colon and what the bench program
+// prints.
 use libc::STDOUT_FILENO;
 ghost use Prim.Native.Nat.{_≤_};
 ghost use lib.ListN.{length};
@@ -7,6 +8,9 @@ ghost use Rattle.io.specs.Counts.{Counts};
 
 // The most bytes of a name of a file.
 const PATH_BYTES: usize = 64;
+
+// The most bytes of the list of samples.
+const LIST_BYTES: usize = 8192;
 
 // Puts the bytes of part into path from place at on, as far as both go, and answers the place after
 // them.
@@ -45,77 +49,33 @@ fn sample(folder: &[u8]) {
     runner::run(&pattern[..n], &proposal[..m]);
 }
 
-// Document 01's readings of models and of patterns that are refused.
-fn readings() {
-    sample(b"reading_g");
-    sample(b"reading_h");
-    sample(b"reading_i");
-    sample(b"reading_e");
-    sample(b"reading_f");
-    sample(b"reading_j_128");
-    sample(b"reading_j_127");
+// The place of the first line's end from a place on: that of the byte 10, or the list's end.
+fn line_end(list: &[u8], from: usize) -> usize
+    requires { ⌜ from ≤ length (now list) ⌝ }
+    ensures { λ r. ⌜ (from ≤ r) × (r ≤ length (now (list .entry))) ⌝ }
+{
+    let mut i = from;
+    while i < list.len() {
+        if list[i] == 10 {
+            return i;
+        }
+        i += 1;
+    }
+    i
 }
 
-// Models that are judged.
-fn findings() {
-    sample(b"lowest_is_two");
-    sample(b"all_64_nodes");
-    sample(b"last_of_64");
-    sample(b"none_has_it");
-    sample(b"axis_counts");
-    sample(b"edges_repeated");
-    sample(b"name_listed");
-    sample(b"name_unlisted");
-    sample(b"jump_to_name");
-    sample(b"fork_and_test");
-    sample(b"high_byte_counts");
-    sample(b"longest_pattern");
-    sample(b"longest_model");
-}
-
-// Refusals 1 to 8.
-fn pattern_refusals() {
-    sample(b"refused_1_missing");
-    sample(b"refused_1_short");
-    sample(b"refused_1_mark");
-    sample(b"refused_2_version");
-    sample(b"refused_2_high_byte");
-    sample(b"refused_3_long");
-    sample(b"refused_3_oversized");
-    sample(b"refused_4_kind_12");
-    sample(b"refused_5_axis_8");
-    sample(b"refused_5_unused");
-    sample(b"refused_6_path_as_node");
-    sample(b"refused_6_end_as_node");
-    sample(b"refused_7_repeat");
-    sample(b"refused_8_root_path");
-    sample(b"refused_1_both_missing");
-}
-
-// Refusals 10 to 14.
-fn model_refusals() {
-    sample(b"refused_10_missing");
-    sample(b"refused_10_short");
-    sample(b"refused_10_mark");
-    sample(b"tableau");
-    sample(b"refused_11_version");
-    sample(b"refused_12_no_node");
-    sample(b"refused_12_65_nodes");
-    sample(b"refused_12_129_names");
-    sample(b"refused_12_4097_edges");
-    sample(b"refused_12_long");
-    sample(b"refused_12_oversized");
-    sample(b"refused_13_name_128");
-    sample(b"refused_13_node");
-    sample(b"refused_13_name_twice");
-    sample(b"refused_14_from");
-    sample(b"refused_14_axis_8");
-    sample(b"refused_14_to_300");
+// Runs the samples of a list, a folder's name on each line.
+fn samples(list: &[u8]) {
+    let mut at = 0;
+    while at < list.len() {
+        let end = line_end(list, at);
+        sample(&list[at..end]);
+        at = end + 1;
+    }
 }
 
 fn main() {
-    readings();
-    findings();
-    pattern_refusals();
-    model_refusals();
+    let mut list = [0u8; LIST_BYTES];
+    let n = runner::load(b"samples.txt", &mut list);
+    samples(&list[..n]);
 }

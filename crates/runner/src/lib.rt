@@ -1,31 +1,36 @@
 // Document 01's bench program on two files: it reads a pattern and a proposal, judges the proposal
-// and prints one line. The line's word and numbers are proved to be those of judging's definition, of
-// the bytes that were read; what reading and writing do is the system's.
+// and prints one line. The report, which is the line's word and numbers, is proved to be that of
+// judging's definition, of the bytes that were read; that it is printed so, and what reading and
+// writing do, is not.
+use judge::AREA;
+use judge::judge_model;
+use judge::judge_tableau;
 use libc::STDOUT_FILENO;
-use model::judge::AREA;
 use model::judge::ModelFinding;
-use model::judge::judge;
+use tableau::finding::TableauFinding;
 ghost use mathlib.Core.Path.{_≡_};
 ghost use Rattle.io.specs.Counts.{Counts};
-ghost use Rattle.model.specs.Judging.{judgingOf, findingOf};
-ghost use Rattle.runner.specs.Report.{areaLent, reportSays};
+ghost use Rattle.model.specs.Judging as model-specs;
+ghost use Rattle.tableau.specs.Judging as tableau-specs;
+ghost use Rattle.runner.specs.Report.{modelReport, tableauReport, reportOf};
 
 // What the line that is printed says: its word and its numbers.
 pub enum Report {
+    Closed(u16, u16, u16, u16),
     Met(u8, u8),
     Unmet,
     Refused(u8, u16),
 }
 
 // The bytes that are read of each file: one more than the longest pattern has, and than the longest
-// proposal, a tableau, will have, so that a longer file is refused for its length.
+// proposal, a tableau, has, so that a longer file is refused for its length.
 const PATTERN_BYTES: usize = 1027;
 
 const PROPOSAL_BYTES: usize = 24585;
 
 // Reads the file to the start of the buffer, as far as both go, and answers how many bytes were
 // read. A file that can't be opened counts as empty.
-fn load(path: &[u8], buf: &mut [u8]) -> usize
+pub fn load(path: &[u8], buf: &mut [u8]) -> usize
     ensures { λ r. ⌜ Counts r (now (buf .exit)) ⌝ }
 {
     let fd = os::open_read(path);
@@ -51,8 +56,8 @@ fn print_pair(word: &[u8], a: u64, b: u64) {
 }
 
 // The report of what judging a model found.
-fn report_of(finding: ModelFinding) -> Report
-    ensures { λ r. ⌜ reportSays r ≡ findingOf finding ⌝ }
+fn model_report(finding: ModelFinding) -> Report
+    ensures { λ r. ⌜ r ≡ modelReport (model-specs.findingOf finding) ⌝ }
 {
     match finding {
         ModelFinding::Met(lowest, number) => Report::Met(lowest, number),
@@ -61,17 +66,36 @@ fn report_of(finding: ModelFinding) -> Report
     }
 }
 
-// The report of a pattern and a proposal, which is judged as a model.
+// The report of what judging a tableau found.
+fn tableau_report(finding: TableauFinding) -> Report
+    ensures { λ r. ⌜ r ≡ tableauReport (tableau-specs.findingOf finding) ⌝ }
+{
+    match finding {
+        TableauFinding::Closed(c) => Report::Closed(c.steps, c.clashes, c.forks, c.most),
+        TableauFinding::Refused(refusal) => Report::Refused(refusal.number(), refusal.place()),
+    }
+}
+
+// The report of a pattern and a proposal, which is judged as a tableau if it begins with that mark,
+// and otherwise as a model.
 fn report_for(pattern: &[u8], proposal: &[u8]) -> Report
-    ensures { λ r. ⌜ reportSays r ≡ judgingOf (now (pattern .entry)) (now (proposal .entry)) areaLent ⌝ }
+    ensures { λ r. ⌜ r ≡ reportOf (now (pattern .entry)) (now (proposal .entry)) ⌝ }
 {
     let mut area = [0u8; AREA];
-    report_of(judge(pattern, proposal, &mut area))
+    if wire::begins(proposal, b"TAB") {
+        return tableau_report(judge_tableau(pattern, proposal, &mut area));
+    }
+    model_report(judge_model(pattern, proposal, &mut area))
 }
 
 // Prints a report as one line.
 fn print_report(report: Report) {
     match report {
+        Report::Closed(steps, clashes, forks, most) => {
+            print_pair(b"closed", steps as u64, clashes as u64);
+            print_number(forks as u64);
+            print_number(most as u64);
+        }
         Report::Met(lowest, number) => print_pair(b"met", lowest as u64, number as u64),
         Report::Unmet => {
             io::write_all(STDOUT_FILENO, b"unmet");

@@ -1,1 +1,3 @@
+pub mod Cleared
 pub mod Fields
+pub mod Blocks

@@ -1,9 +1,10 @@
-// The fields that the files of document 01 have in common: the mark at the front, and
-// 16-bit little-endian numbers.
+// Bytes that are lent: the fields that the files of document 01 have in common, the mark at the front
+// and 16-bit little-endian numbers; blocks of eight bytes in a table; clearing a working area.
 ghost use mathlib.Core.Path.{_≡_};
-ghost use Prim.Native.Nat.{_+_, _<_};
-ghost use lib.ListN.{length};
+ghost use Prim.Native.Nat.{_+_, _*_, _≤_, _<_};
+ghost use lib.ListN.{length, replicate};
 ghost use Rattle.wire.specs.Fields.{beginsWith, wordAt};
+ghost use Rattle.wire.specs.Blocks.{putFrom};
 
 // Whether the slice begins with the mark.
 pub fn begins(s: &[u8], mark: &[u8]) -> bool
@@ -34,4 +35,28 @@ pub fn word(s: &[u8], i: usize) -> u16
     ensures { λ r. ⌜ r ≡ wordAt (now (s .entry)) i ⌝ }
 {
     wide(s[i]) + wide(s[i + 1]) * 256
+}
+
+// Block i of a table becomes this one.
+pub fn put_block(table: &mut [u8], i: usize, block: [u8; 8])
+    requires { ⌜ 8 * (i + 1) ≤ length (now table) ⌝ }
+    ensures { λ r. ⌜ now (table .exit) ≡ putFrom (now (table .entry)) (8 * i) 0 block ⌝ }
+{
+    let at = 8 * i;
+    let mut k = 0;
+    while k < 8 {
+        table[at + k] = block[k];
+        k += 1;
+    }
+}
+
+// Zeroes the slice.
+pub fn clear(s: &mut [u8])
+    ensures { λ _. ⌜ now (s .exit) ≡ replicate (length (now (s .entry))) 0 ⌝ }
+{
+    let mut i = 0;
+    while i < s.len() {
+        s[i] = 0;
+        i += 1;
+    }
 }

@@ -5,7 +5,9 @@ use mathlib.Core.Bool.{Bool, true, false, false≢true}
 use mathlib.Core.List.{List, [], _∷_}
 use Prim.Native.Nat.{ℕ, zero, suc, _<_}
 use native.Mathlib.Omega.{arith}
+use borrow.Author.Tests.{eqb-true}
 use lib.ListN.{length, getD, List·getD-eq-default}
+use lib.Dec.{eqb}
 use Rattle.pattern.specs.declared.table.Kind.{Kind}
 use Rattle.pattern.specs.declared.table.Sort.{Sort}
 use Rattle.pattern.specs.declared.table.Field.{Field}
@@ -35,6 +37,9 @@ kindNumber Kind.Jump = 9
 kindNumber Kind.Test = 10
 kindNumber Kind.Fork = 11
 kindNumber Kind.Unknown = 0
+
+abbrev pub sameKind : Kind → Kind → Bool
+sameKind κ κ′ = eqb (kindNumber κ) (kindNumber κ′)
 
 -- "A path reference 255 means end of path."
 abbrev pub endOfPath : ℕ
@@ -102,6 +107,9 @@ kind-of-number Kind.Jump = refl
 kind-of-number Kind.Test = refl
 kind-of-number Kind.Fork = refl
 kind-of-number Kind.Unknown = refl
+
+pub same-kind : (κ κ′ : Kind) → sameKind κ κ′ ≡ true → κ ≡ κ′
+same-kind κ κ′ h = sym (kind-of-number κ) ∙ ap kindOf (eqb-true (kindNumber κ) (kindNumber κ′) h) ∙ kind-of-number κ′
 
 -- a number that no row of the table has is of no kind
 pub kind-beyond : (n : ℕ) → ((k : ℕ) → k < length kinds → n ≡ suc k → ⊥) → kindOf n ≡ Kind.Unknown

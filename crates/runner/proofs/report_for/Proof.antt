@@ -1,25 +1,62 @@
--- `runner::report_for` meets its contract: the report says what judging finds.
+-- `runner::report_for` meets its contract: the report says what the judgement of the proposal's mark finds.
 -- Assumes nothing.
-use mathlib.Core.Path.{_∙_}
+use mathlib.Core.Path.{refl}
 use borrow.Author.Needs.{needs}
 use Rattle.runner.proofs.report_for.Statement.{statement}
 use Rattle.runner.proofs.report_for.Tie as tie
 use Rattle.runner.proofs.report_for.Reads as reads
 use Rattle.runner.proofs.report_for.Lts as lts
-use Rattle.model.proofs.judge.judge.Reads as judge-reads
-use Rattle.runner.proofs.report_of.Reads as report-of-reads
+use Rattle.judge.proofs.judge_model.Reads as judge-model-reads
+use Rattle.judge.proofs.judge_tableau.Reads as judge-tableau-reads
+use Rattle.runner.proofs.model_report.Reads as model-report-reads
+use Rattle.runner.proofs.tableau_report.Reads as tableau-report-reads
+use Rattle.wire.proofs.begins.Reads as begins-reads
 
-slice-aggregate-judge : tie.Need-slice-aggregate-judge
-slice-aggregate-judge c = search needs
+slice-aggregate-begins : tie.Need-slice-aggregate-begins
+slice-aggregate-begins c = search needs
 
-judge-requires : tie.Need-judge-requires
-judge-requires c κs = search needs
+begins-requires : tie.Need-begins-requires
+begins-requires c κs = search needs
 
-report-of-requires : tie.Need-report-of-requires
-report-of-requires c κs = search needs
+slice-aggregate-judge-tableau : tie.Need-slice-aggregate-judge-tableau
+slice-aggregate-judge-tableau c = search needs
+
+judge-tableau-requires : tie.Need-judge-tableau-requires
+judge-tableau-requires c κs = search needs
+
+tableau-report-requires : tie.Need-tableau-report-requires
+tableau-report-requires c κs = search needs
 
 returns : tie.Need-returns
-returns c = c .report-of .ensures ∙ c .before .before .judge .ensures .0
+returns c =
+    let begins = c .before .before .before .before in
+    rw (c .tableau-report .ensures, c .before .before .judge-tableau .ensures .0, ← rw (begins .if1 .taken) at (begins .before .begins .ensures)) refl
+
+slice-aggregate-judge-model : tie.Need-slice-aggregate-judge-model
+slice-aggregate-judge-model c = search needs
+
+judge-model-requires : tie.Need-judge-model-requires
+judge-model-requires c κs = search needs
+
+model-report-requires : tie.Need-model-report-requires
+model-report-requires c κs = search needs
+
+returns-2 : tie.Need-returns-2
+returns-2 c =
+    let begins = c .before .before .before .before in
+    rw (c .model-report .ensures, c .before .before .judge-model .ensures .0, ← rw (begins .if1 .left) at (begins .before .begins .ensures)) refl
 
 pub report-for-spec : {M : Type 1} → statement M
-report-for-spec = tie.close (tie.spec slice-aggregate-judge judge-requires report-of-requires returns)
+report-for-spec =
+    tie.close
+    (tie.spec
+    slice-aggregate-begins
+    begins-requires
+    slice-aggregate-judge-tableau
+    judge-tableau-requires
+    tableau-report-requires
+    returns
+    slice-aggregate-judge-model
+    judge-model-requires
+    model-report-requires
+    returns-2)

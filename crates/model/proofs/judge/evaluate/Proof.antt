@@ -20,7 +20,7 @@ use Rattle.model.proofs.judge.evaluate.Tie as tie
 use Rattle.model.proofs.judge.evaluate.Reads as reads
 use Rattle.model.proofs.judge.evaluate.Lts as lts
 use Rattle.evaluation.proofs.root_nodes.Reads as root-nodes-reads
-use Rattle.model.proofs.judge.clear.Reads as clear-reads
+use Rattle.wire.proofs.clear.Reads as clear-reads
 use Rattle.model.proofs.tables.tabulate.Reads as tabulate-reads
 use Rattle.model.proofs.tables.tabulate_values.Reads as tabulate-values-reads
 

@@ -5,11 +5,12 @@ use mathlib.Core.Path.{_≡_, refl, sym, _∙_, ap}
 use Prim.Native.Nat.{_≤_}
 use native.Mathlib.Nat.{le-refl}
 use lib.ListN.{length, take}
+use Rattle.wire.specs.Cleared.{front-length, cleared-front}
 use Rattle.pattern.specs.Checks.Finding.{found, passes}
 use Rattle.pattern.specs.File.Reading.{countOf}
 use Rattle.pattern.specs.File.Valid.{Valid, valid-read}
 use Rattle.model.specs.File.Valid.{ValidModel}
-use Rattle.model.specs.Judging.{areaNeed, judgingCheck, checkOf, checks-pass, judging-finds, judging-refuses, finding-means, front-length, cleared-front}
+use Rattle.model.specs.Judging.{areaNeed, judgingCheck, checkOf, checks-pass, judging-finds, judging-refuses, finding-means}
 use Rattle.model.proofs.judge.judge.Statement.{statement}
 use Rattle.model.proofs.judge.judge.Tie as tie
 use Rattle.model.proofs.judge.judge.Reads as reads

@@ -1,0 +1,193 @@
+-- 01's bench readings A to J, in one list, shown of the definitions by one result.
+-- Assumes nothing.
+use mathlib.Core.Path.{_≡_, refl, _∙_, ap, subst}
+use mathlib.Core.Logic.{_⊎_, inl, inr}
+use mathlib.Core.List.{List, [], _∷_, _++_}
+use Prim.Native.Nat.{ℕ, _≤_}
+use borrow.Author.Tests.{le-ltb}
+use Rattle.nodeset.specs.Below.{lowestBelow, countBelow}
+use Rattle.pattern.specs.declared.types.Comparison.{Comparison}
+use Rattle.pattern.specs.Logic.Syntax.{NExp}
+use Rattle.pattern.specs.Logic.Semantics.{Model, Naming, Holds}
+use Rattle.pattern.specs.Logic.Finite.{Finite, Named, modelOf, namingOf}
+use Rattle.pattern.specs.Checks.Finding.{Finding, found, refused, Check, passes, refuses}
+use Rattle.pattern.specs.Checks.Range.{someBelow, eachBelow}
+use Rattle.pattern.specs.File.Fields.{eachField}
+use Rattle.pattern.specs.File.Entries.{sameBytes}
+use Rattle.pattern.specs.File.Valid.{valid}
+use Rattle.pattern.specs.File.Reading.{mark, headerCheck, entryCheck, rootCheck, patternCheck, readingOf}
+use Rattle.pattern.specs.Meaning.Expression.{end, nodeWithin, pathWithin, nodeAt, rootOf}
+use Rattle.evaluation.specs.Decision.{holdsTest, leadsTest}
+use Rattle.evaluation.specs.Judged.{Judged, met, unmet, judgedBy, judgedOf, judged-says}
+use Rattle.pattern.specs.Meaning.Names.{usesName}
+use Rattle.model.specs.File.Layout as layout
+use Rattle.model.specs.File.Contents.{leadsIn, nodeNamed, modelFrom}
+use Rattle.model.specs.File.Checks as file
+use Rattle.model.specs.File.Checks.{nameCheck, edgeCheck, modelCheck}
+use Rattle.model.specs.File.Valid.{ValidModel, all-named}
+use Rattle.model.specs.Judging.{areaNeed, judgingCheck, judgingOf, checks-pass, judging-finds, judging-refuses}
+use Rattle.rules.specs.Lines.{branchHas}
+use Rattle.rules.specs.Steps.{stepAt, stepsFrom, stepCheck}
+use Rattle.tableau.specs.declared.finding.Closed.{Closed}
+use Rattle.tableau.specs.Run.{run, branchCheck}
+use Rattle.tableau.specs.Judging as tableau
+
+-- each of the claims
+abbrev pub All : List (Type 0) → Type 0
+All [] = Unit {0}
+All (claim ∷ claims) = claim × All claims
+
+-- a pattern file of version 1 with this count and these bytes for its entries
+abbrev pub patternFile : ℕ → List ℕ → List ℕ
+patternFile n entries = mark ++ (1 ∷ 0 ∷ n ∷ entries)
+
+-- a tableau file of version 1 with this start name and count, below 256, and these bytes for its steps
+abbrev pub tableauFile : ℕ → ℕ → List ℕ → List ℕ
+tableauFile start s steps = tableau.mark ++ (1 ∷ 0 ∷ start ∷ s ∷ 0 ∷ steps)
+
+-- a step with lines below 256
+abbrev pub step : ℕ → ℕ → ℕ → ℕ → List ℕ
+step rule P Q argument = rule ∷ P ∷ 0 ∷ Q ∷ 0 ∷ argument ∷ []
+
+-- judging gives this with every working area that is long enough
+abbrev pub Finds : List ℕ → List ℕ → Finding Closed → Type 0
+Finds bs ts f = (size : ℕ) → tableau.areaNeed ≤ size → tableau.judgingOf bs ts size ≡ f
+
+abbrev pub closed : ℕ → ℕ → ℕ → ℕ → Finding Closed
+closed steps clashes forks most = found (record { steps = steps; clashes = clashes; forks = forks; most = most })
+
+-- "A: 1,0,0,0; 5,0,0,0; 3,1,0,0; 4,1,2,0. Start 0; steps (rule P Q arg) 2 0 0 0; 1 2 0 0; 21 1 3 0. The program prints `closed 3 1 0 4`."
+abbrev pub patternA : List ℕ
+patternA = patternFile 4 (1 ∷ 0 ∷ 0 ∷ 0 ∷ 5 ∷ 0 ∷ 0 ∷ 0 ∷ 3 ∷ 1 ∷ 0 ∷ 0 ∷ 4 ∷ 1 ∷ 2 ∷ 0 ∷ [])
+
+abbrev pub A : Type 0
+A = Finds patternA (tableauFile 0 3 (step 2 0 0 0 ++ step 1 2 0 0 ++ step 21 1 3 0)) (closed 3 1 0 4)
+
+-- "B: A with its last step dropped: `refused 26 2`."
+abbrev pub B : Type 0
+B = Finds patternA (tableauFile 0 2 (step 2 0 0 0 ++ step 1 2 0 0)) (refused 26 2)
+
+-- "C: A with that step twice: `refused 25 3`."
+abbrev pub C : Type 0
+C = Finds patternA (tableauFile 0 4 (step 2 0 0 0 ++ step 1 2 0 0 ++ step 21 1 3 0 ++ step 21 1 3 0)) (refused 25 3)
+
+-- "D: 1,0,0,0; 1,1,0,0; 4,0,1,0; 3,2,0,0; 4,0,3,0; 4,1,4,0. Start 0; steps 2 0 0 0; 2 2 0 0; 1 4 0 0; 3 5 0 0; 21 3 6 0; 21 1 6 0:
+-- `closed 6 2 1 7`."
+abbrev pub patternD : List ℕ
+patternD = patternFile 6
+    (1 ∷ 0 ∷ 0 ∷ 0 ∷ 1 ∷ 1 ∷ 0 ∷ 0 ∷ 4 ∷ 0 ∷ 1 ∷ 0 ∷ 3 ∷ 2 ∷ 0 ∷ 0 ∷ 4 ∷ 0 ∷ 3 ∷ 0 ∷ 4 ∷ 1 ∷ 4 ∷ 0 ∷ [])
+
+abbrev pub D : Type 0
+D =
+    Finds patternD
+    (tableauFile 0 6 (step 2 0 0 0 ++ step 2 2 0 0 ++ step 1 4 0 0 ++ step 3 5 0 0 ++ step 21 3 6 0 ++ step 21 1 6 0)) (closed 6 2 1 7)
+
+-- "E: n = 0, length 6: 3."
+abbrev pub E : Type 0
+E = readingOf (patternFile 0 []) ≡ refused 3 0
+
+-- "F: entry 0 is 3,0,0,0: 6, place 0."
+abbrev pub F : Type 0
+F = readingOf (patternFile 1 (3 ∷ 0 ∷ 0 ∷ 0 ∷ [])) ≡ refused 6 0
+
+-- a model file of version 1 with these counts, the last below 256, and these bytes for its records
+abbrev pub modelFile : ℕ → ℕ → ℕ → List ℕ → List ℕ
+modelFile n m k records = layout.mark ++ (1 ∷ 0 ∷ n ∷ m ∷ k ∷ 0 ∷ records)
+
+-- a node without properties, with this value on channel 0, below 256, and zero on the others
+abbrev pub node : ℕ → List ℕ
+node v = 0 ∷ 0 ∷ 0 ∷ 0 ∷ v ∷ 0 ∷ 0 ∷ 0 ∷ 0 ∷ 0 ∷ 0 ∷ 0 ∷ []
+
+-- judging gives this with every working area that is long enough
+abbrev pub Judges : List ℕ → List ℕ → Judged → Type 0
+Judges bs ds j = (size : ℕ) → areaNeed bs ≤ size → judgingOf bs ds size ≡ found j
+
+-- the first four entries of G and H: forward and reverse settings, same and differ
+abbrev pub settings : List ℕ
+settings =
+    8 ∷ 0 ∷ 255 ∷ 0 ∷ 8 ∷ 1 ∷ 255 ∷ 0 ∷ 6 ∷ 0 ∷ 0 ∷ 1 ∷ 7 ∷ 0 ∷ 0 ∷ 1 ∷ []
+
+-- "G, forward and reverse settings: 8,0,255,0; 8,1,255,0; 6,0,0,1; 7,0,0,1; 4,2,3,0. Four nodes, node 0 with axis 0 to 1, axis 1 to 2 and
+-- 3; channel 0 values 0, 10, 10, 20; no names, all else zero: `met 0 1`."
+abbrev pub G : Type 0
+G =
+    Judges (patternFile 5 (settings ++ (4 ∷ 2 ∷ 3 ∷ 0 ∷ [])))
+    (modelFile 4 0 3 (node 0 ++ node 10 ++ node 10 ++ node 20 ++ (0 ∷ 0 ∷ 1 ∷ 0 ∷ 1 ∷ 2 ∷ 0 ∷ 1 ∷ 3 ∷ [])))
+    (met 0 1)
+
+-- "H: not same and not differ over G's paths, one node without edges: `met 0 1`."
+abbrev pub H : Type 0
+H = Judges (patternFile 7 (settings ++ (3 ∷ 2 ∷ 0 ∷ 0 ∷ 3 ∷ 3 ∷ 0 ∷ 0 ∷ 4 ∷ 4 ∷ 5 ∷ 0 ∷ []))) (modelFile 1 0 0 (node 0)) (met 0 1)
+
+-- "I: root 7,0,255,255: every model unmet": every finite data model; every model file that passes its checks; and any bytes whatever as the
+-- model, with any area, are unmet or refused
+abbrev pub patternI : List ℕ
+patternI = patternFile 1 (7 ∷ 0 ∷ 255 ∷ 255 ∷ [])
+
+abbrev pub I : Type 0
+I =
+    ((F : Finite) → Named F → judgedOf F (rootOf patternI) ≡ unmet)
+    × ((ds : List ℕ) → ValidModel ds → Judges patternI ds unmet)
+    × ((ds : List ℕ) (size : ℕ)
+    → (judgingOf patternI ds size ≡ found unmet) ⊎ ((number : ℕ) × ((place : ℕ) × (judgingOf patternI ds size ≡ refused number place))))
+
+-- "J: name 128: 5; 127 accepted." Of a name as a node, and of one that a path jumps to.
+abbrev pub J : Type 0
+J =
+    (readingOf (patternFile 1 (2 ∷ 128 ∷ 0 ∷ 0 ∷ [])) ≡ refused 5 0)
+    × (readingOf (patternFile 1 (2 ∷ 127 ∷ 0 ∷ 0 ∷ [])) ≡ found 1)
+    × (readingOf (patternFile 2 (9 ∷ 128 ∷ 255 ∷ 0 ∷ 6 ∷ 0 ∷ 0 ∷ 0 ∷ [])) ≡ refused 5 0)
+    × (readingOf (patternFile 2 (9 ∷ 127 ∷ 255 ∷ 0 ∷ 6 ∷ 0 ∷ 0 ∷ 0 ∷ [])) ≡ found 2)
+
+abbrev pub readings : List (Type 0)
+readings = A ∷ B ∷ C ∷ D ∷ E ∷ F ∷ G ∷ H ∷ I ∷ J ∷ []
+
+-- a node differs from itself on no channel
+root-I : rootOf patternI ≡ NExp.compare Comparison.Differ 0 end end
+unfolding nodeAt nodeWithin
+root-I = refl
+
+never-differs : (M : Model) (nom : Naming M) (e : ℕ) (u : M .Node) → Holds M nom (NExp.compare Comparison.Differ e end end) u → ⊥
+never-differs M nom e u (y, (z, (α, β, differ))) = differ (subst (λ (w : M .Node). M .alike e w z) (α .0) (subst (M .alike e u) (β .0) (M .alike-refl e u)))
+
+always-unmet : (F : Finite) → Named F → judgedOf F (rootOf patternI) ≡ unmet
+always-unmet F ok =
+    judged-says F ok (rootOf patternI) unmet .1
+    (λ u h. never-differs (modelOf F) (namingOf F ok) 0 (u, h .0) (subst (λ (φ : NExp). Holds (modelOf F) (namingOf F ok) φ (u, h .0)) root-I (h .1)))
+
+-- the pattern is valid
+reads-I : readingOf patternI ≡ found 1
+unfolding readingOf patternCheck headerCheck entryCheck rootCheck eachField someBelow eachBelow sameBytes
+reads-I = refl
+
+I-holds : I
+I-holds = (always-unmet, files, any)
+  where
+    files : (ds : List ℕ) → ValidModel ds → Judges patternI ds unmet
+    files ds ok size l =
+        judging-finds patternI ds size (checks-pass patternI ds size .1 (valid patternI 1 reads-I, l, ok)) ∙ ap found (always-unmet (modelFrom ds) (all-named ok))
+
+    any : (ds : List ℕ) (size : ℕ)
+        → (judgingOf patternI ds size ≡ found unmet) ⊎ ((number : ℕ) × ((place : ℕ) × (judgingOf patternI ds size ≡ refused number place)))
+    any ds size = go (judgingCheck patternI ds size) refl
+      where
+        go : (c : Check) → judgingCheck patternI ds size ≡ c
+            → (judgingOf patternI ds size ≡ found unmet) ⊎ ((number : ℕ) × ((place : ℕ) × (judgingOf patternI ds size ≡ refused number place)))
+        go passes e = inl (files ds (checks-pass patternI ds size .0 e .2) size (checks-pass patternI ds size .0 e .1))
+        go (refuses number place) e = inr (number, (place, judging-refuses patternI ds size number place e))
+
+pub readings-hold : All readings
+unfolding readingOf patternCheck headerCheck entryCheck rootCheck eachField someBelow eachBelow sameBytes judgingOf judgingCheck modelCheck file.headerCheck nameCheck edgeCheck nodeAt nodeWithin pathWithin holdsTest leadsTest judgedBy lowestBelow countBelow leadsIn nodeNamed tableau.judgingOf tableau.judgingCheck tableau.headerCheck tableau.walked run branchCheck stepCheck stepAt stepsFrom branchHas usesName
+readings-hold = (
+  (λ size l. rw (le-ltb size 8192 l)),
+  (
+    (λ size l. rw (le-ltb size 8192 l)),
+    (
+      (λ size l. rw (le-ltb size 8192 l)),
+      (
+        (λ size l. rw (le-ltb size 8192 l)),
+        (refl, (refl, ((λ size l. rw (le-ltb size 2040 l)), ((λ size l. rw (le-ltb size 2040 l)), (I-holds, ((refl, refl, refl, refl), tt)))))),
+      ),
+    ),
+  ),
+)

@@ -1,0 +1,46 @@
+-- `rules::comparisons::rule22` meets its contract.
+-- Assumes nothing.
+use borrow.Author.Needs.{needs}
+use Rattle.rules.proofs.comparisons.rule22.Statement.{statement}
+use Rattle.rules.proofs.comparisons.rule22.Tie as tie
+
+enum-told : tie.Need-enum-told
+enum-told c = search needs
+
+enum-told-2 : tie.Need-enum-told-2
+enum-told-2 c = search needs
+
+enum-told-3 : tie.Need-enum-told-3
+enum-told-3 c = search needs
+
+enum-known-q : tie.Need-enum-known-q
+enum-known-q c = search needs
+
+contrary-requires : tie.Need-contrary-requires
+contrary-requires c κs = search needs
+
+returns : tie.Need-returns
+returns c = search needs
+
+returns-2 : tie.Need-returns-2
+returns-2 c = search needs
+
+returns-3 : tie.Need-returns-3
+returns-3 c = search needs
+
+returns-4 : tie.Need-returns-4
+returns-4 c = rw (c .before .before .q .given .1) (c .contrary .ensures)
+
+pub rule22-spec : {M : Type 1} → statement M
+rule22-spec =
+    tie.close
+    (tie.spec
+    enum-told
+    enum-told-2
+    enum-told-3
+    enum-known-q
+    contrary-requires
+    returns
+    returns-2
+    returns-3
+    returns-4)

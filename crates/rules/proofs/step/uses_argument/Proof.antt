@@ -1,0 +1,25 @@
+-- `rules::step::uses_argument` meets its contract: the rules of these numbers use the argument, and no other.
+-- Assumes nothing.
+use mathlib.Core.Path.{sym}
+use borrow.Author.Needs.{needs}
+use Rattle.rules.proofs.step.uses_argument.Statement.{statement}
+use Rattle.rules.proofs.step.uses_argument.Tie as tie
+use Rattle.rules.specs.Table.{no-argument}
+
+returns : tie.Need-returns
+returns c = search needs
+
+returns-2 : tie.Need-returns-2
+returns-2 c = search needs
+
+returns-3 : tie.Need-returns-3
+returns-3 c = search needs
+
+returns-4 : tie.Need-returns-4
+returns-4 c = search needs
+
+returns-5 : tie.Need-returns-5
+returns-5 c = sym (no-argument _ (c .match .rest))
+
+pub uses-argument-spec : {M : Type 1} → statement M
+uses-argument-spec = tie.close (tie.spec returns returns-2 returns-3 returns-4 returns-5)

@@ -1,0 +1,127 @@
+// A step on a branch: document 01's refusals 19 to 22, in its order, and then what the step concludes.
+use crate::conclude::conclude;
+use crate::fresh::is_fresh;
+use crate::step::Conclusion;
+use crate::step::Step;
+use crate::step::StepAnswer;
+use crate::step::StepRefusal;
+use crate::step::is_known;
+use crate::step::uses_argument;
+use crate::step::uses_q;
+use crate::stored::load;
+ghost use mathlib.Core.Path.{_≡_};
+ghost use mathlib.Core.Bool.{false};
+ghost use mathlib.Core.List.{List};
+ghost use Prim.Native.Nat.{_*_, _≤_};
+ghost use lib.Dec.{ltb};
+ghost use lib.ListN.{length};
+ghost use Rattle.pattern.specs.Checks.Finding.{found};
+ghost use Rattle.pattern.specs.File.Reading.{readingOf};
+ghost use Rattle.rules.specs.declared.line.Line.{Line};
+ghost use Rattle.rules.specs.Stored.{linesFrom};
+ghost use Rattle.rules.specs.Steps.{lineFault, argumentFault, fieldFault, stepConcludes, isUnfit, isStale, stepping, answerOf};
+ghost use Rattle.rules.specs.Standing.{Standing};
+
+// Whether a branch of so many lines has a line of the number.
+fn on_branch(len: usize, k: u16) -> bool
+    ensures { λ r. ⌜ r ≡ ltb k len ⌝ }
+{
+    (k as usize) < len
+}
+
+// Whether a field that holds the number of a line is at fault: a used one is on the branch, an unused
+// one zero.
+fn line_fault(used: bool, len: usize, k: u16) -> bool
+    ensures { λ r. ⌜ ((b : List Line) → length b ≡ len → r ≡ lineFault used b k) ⌝ }
+{
+    if used {
+        return !on_branch(len, k);
+    }
+    k != 0
+}
+
+// Whether an argument is at fault: an unused one is zero.
+fn argument_fault(used: bool, argument: u8) -> bool
+    ensures { λ r. ⌜ r ≡ argumentFault used argument ⌝ }
+{
+    if used {
+        return false;
+    }
+    argument != 0
+}
+
+// Refusal 20: whether "a used line not on the branch or an unused field not zero", on a branch of so
+// many lines.
+fn field_fault(len: usize, s: Step) -> bool
+    ensures { λ r. ⌜ ((b : List Line) → length b ≡ len → r ≡ fieldFault b s) ⌝ }
+{
+    if !on_branch(len, s.p) {
+        return true;
+    }
+    if line_fault(uses_q(s.rule), len, s.q) {
+        return true;
+    }
+    argument_fault(uses_argument(s.rule), s.argument)
+}
+
+// What a step without such a fault concludes. A rule that doesn't use Q is handed line 0.
+fn conclusion(p: &[u8], n: u8, area: &[u8], len: usize, s: Step) -> Conclusion
+    requires { ⌜ Standing (now p) n (now area) len ⌝ }
+    requires { ⌜ fieldFault (linesFrom (now area) 0 len) s ≡ false ⌝ }
+    ensures { λ r. ⌜ r ≡ stepConcludes (now (p .entry)) (linesFrom (now (area .entry)) 0 len) s ⌝ }
+{
+    let first = load(area, s.p as usize);
+    let second = load(area, s.q as usize);
+    conclude(p, n, s.rule, first, second, s.argument)
+}
+
+// Refusal 21: whether lines or argument don't fit.
+fn is_unfit(conclusion: Conclusion) -> bool
+    ensures { λ r. ⌜ r ≡ isUnfit conclusion ⌝ }
+{
+    match conclusion {
+        Conclusion::One(_) => false,
+        Conclusion::Two(_, _) => false,
+        Conclusion::New(_, _, _) => false,
+        Conclusion::Fork(_, _) => false,
+        Conclusion::Clash => false,
+        Conclusion::Unfit => true,
+    }
+}
+
+// Refusal 22: whether the conclusion wants a name fresh that isn't.
+fn is_stale(p: &[u8], n: u8, area: &[u8], len: usize, conclusion: Conclusion) -> bool
+    requires { ⌜ readingOf (now p) ≡ found n ⌝ }
+    requires { ⌜ 8 * len ≤ length (now area) ⌝ }
+    ensures { λ r. ⌜ r ≡ isStale (now (p .entry)) (linesFrom (now (area .entry)) 0 len) conclusion ⌝ }
+{
+    match conclusion {
+        Conclusion::One(_) => false,
+        Conclusion::Two(_, _) => false,
+        Conclusion::New(name, _, _) => !is_fresh(p, n, area, len, name),
+        Conclusion::Fork(_, _) => false,
+        Conclusion::Clash => false,
+        Conclusion::Unfit => false,
+    }
+}
+
+// Step k, which is s, on a branch of so many lines, for a pattern of n entries.
+pub fn take(p: &[u8], n: u8, area: &[u8], len: usize, s: Step, k: u16) -> StepAnswer
+    requires { ⌜ Standing (now p) n (now area) len ⌝ }
+    ensures { λ r. ⌜ answerOf r ≡ stepping (now (p .entry)) (linesFrom (now (area .entry)) 0 len) s k ⌝ }
+{
+    if !is_known(s.rule) {
+        return StepAnswer::Refused(StepRefusal::Rule(k));
+    }
+    if field_fault(len, s) {
+        return StepAnswer::Refused(StepRefusal::Field(k));
+    }
+    let concluded = conclusion(p, n, area, len, s);
+    if is_unfit(concluded) {
+        return StepAnswer::Refused(StepRefusal::Fit(k));
+    }
+    if is_stale(p, n, area, len, concluded) {
+        return StepAnswer::Refused(StepRefusal::Fresh(k));
+    }
+    StepAnswer::Concluded(concluded)
+}
