@@ -6,6 +6,7 @@ use mathlib.Core.Logic.{_⊎_, inl, inr, _↔_}
 use Prim.Native.Nat.{ℕ, suc, _+_, _<_}
 use native.Mathlib.Omega.{arith}
 use native.Mathlib.Nat.{not-suc-le-zero, eq-or-lt-of-le, le-of-suc-le-suc}
+use native.Mathlib.Numerals.{add-one}
 use lib.Dec.{eqb}
 use borrow.Author.Tests.{eqb-true, eq-eqb, not-true}
 use Rattle.pattern.specs.Checks.Tests.{or-is-true, and-is-true, or-left, or-right}
@@ -153,7 +154,7 @@ module _ (P : ℕ → Type 0) where
           which (inr m) = g u .1 (m, h .1)
 
   pub collected-next : (n : ℕ) (s : NodeSet) (b : Bool) → n < width → (b ≡ true) ↔ P n → Collected P n s → Collected P (n + 1) (insertIf b s n)
-  collected-next n s b l here g = let one : suc n ≡ n + 1 = omega arith in subst (λ (m : ℕ). Collected P m (insertIf b s n)) one (go b here)
+  collected-next n s b l here g = subst (λ (m : ℕ). Collected P m (insertIf b s n)) (sym (add-one n)) (go b here)
     where
       go : (t : Bool) → (t ≡ true) ↔ P n → Collected P (suc n) (insertIf t s n)
       go true e = collected-one n s l (e .0 refl) g

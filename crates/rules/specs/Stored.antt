@@ -6,6 +6,7 @@ use mathlib.Core.List.{List, [], _∷_, _++_}
 use Prim.Native.Nat.{ℕ, zero, suc, _+_, _-_, _*_, _≤_, _<_}
 use native.Mathlib.Nat.{not-suc-le-zero, le-of-suc-le-suc, le-refl, add-zero, zero-add}
 use native.Mathlib.Omega.{arith}
+use native.Mathlib.Numerals.{add-one}
 use lib.ListN.{length, getD}
 use Rattle.wire.specs.Blocks.{putFrom, length-from, from-out, from-in, apart}
 use Rattle.pattern.specs.declared.types.Channel.{Channel}
@@ -170,11 +171,8 @@ line-on xs n j h = line-on-from xs 0 n j h ∙ ap (lineAt xs) (zero-add j)
 -- one line more
 pub lines-more : (xs : List ℕ) (k n : ℕ) → linesFrom xs k (n + 1) ≡ linesFrom xs k n ++ lineAt xs (k + n) ∷ []
 unfolding linesFrom
-lines-more xs k n = ap (linesFrom xs k) one ∙ go k n
+lines-more xs k n = ap (linesFrom xs k) (add-one n) ∙ go k n
   where
-    one : n + 1 ≡ suc n
-    one = omega arith
-
     go : (k n : ℕ) → linesFrom xs k (suc n) ≡ linesFrom xs k n ++ lineAt xs (k + n) ∷ []
     go k zero = ap (λ (m : ℕ). lineAt xs m ∷ []) (sym (add-zero k))
     go k (suc n) =
@@ -213,10 +211,7 @@ pub branch-next : (xs : List ℕ) (k n i : ℕ) → k < n
 unfolding linesFrom branchHas
 branch-next xs k n i h =
     ap (λ (m : ℕ). branchHas (linesFrom xs k m) i) left
-    ∙ ap (λ (m : ℕ). lineHas (lineAt xs k) i || branchHas (linesFrom xs m (n - (k + 1))) i) one
+    ∙ ap (λ (m : ℕ). lineHas (lineAt xs k) i || branchHas (linesFrom xs m (n - (k + 1))) i) (sym (add-one k))
   where
     left : n - k ≡ suc (n - (k + 1))
     left = omega (arith, h)
-
-    one : suc k ≡ k + 1
-    one = omega arith

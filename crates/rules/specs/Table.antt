@@ -6,6 +6,7 @@ use mathlib.Core.List.{List, [], _∷_}
 use Prim.Native.Nat.{ℕ, zero, suc, _+_, _≤_, suc-le-suc}
 use native.Mathlib.Nat.{zero-add}
 use native.Mathlib.Omega.{arith}
+use native.Mathlib.Numerals.{add-one}
 use borrow.Author.Tests.{lt-leb, ne-eqb, not-true}
 use lib.Dec.{leb, eqb}
 use lib.ListN.{length, getD}
@@ -47,10 +48,7 @@ each-row P k (r ∷ rs) e beyond (suc j) =
 -- what holds of every row of the table, each with its number, and of a number that no rule has, holds of the rule of every number
 pub each-rule : (P : ℕ → Rule → Type 0) → EachFrom P 1 rules → ((k : ℕ) → P k unknown) → (k : ℕ) → P k (ruleAt k)
 each-rule P e u zero = u 0
-each-rule P e u (suc k) = subst (λ (n : ℕ). P n (getD rules k unknown)) place (each-row P 1 rules e (λ j l. u (j + 1)) k)
-  where
-    place : k + 1 ≡ suc k
-    place = omega arith
+each-rule P e u (suc k) = subst (λ (n : ℕ). P n (getD rules k unknown)) (add-one k) (each-row P 1 rules e (λ j l. u (j + 1)) k)
 
 -- the rules are 23, from number 1 on
 abbrev Known : ℕ → Rule → Type 0
@@ -58,11 +56,8 @@ Known n r = not (isUnknown r) ≡ leb n 23
 
 pub known-rules : (k : ℕ) → (k ≡ 0 → ⊥) → not (isUnknown (ruleAt k)) ≡ leb k 23
 known-rules zero h = absurd (h refl)
-known-rules (suc k) h = subst (λ (n : ℕ). Known n (getD rules k unknown)) place (each-row Known 1 rules rows beyond k)
+known-rules (suc k) h = subst (λ (n : ℕ). Known n (getD rules k unknown)) (add-one k) (each-row Known 1 rules rows beyond k)
   where
-    place : k + 1 ≡ suc k
-    place = omega arith
-
     rows : EachFrom Known 1 rules
     rows =
         refl and refl and refl and refl and refl and refl and refl and refl and refl and refl and refl and refl and refl and refl and refl and refl and refl

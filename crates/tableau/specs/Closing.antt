@@ -13,7 +13,7 @@ use Rattle.rules.specs.declared.step.Conclusion.{Conclusion}
 use Rattle.rules.specs.Steps.{stepping}
 use Rattle.tableau.specs.Run.{maxLines, maxWaiting}
 
--- the step follows a listed rule on the branch, and concludes c
+-- the step follows a listed rule on the branch, and concludes c; the step's number, here 0, bears on the place of a refusal alone
 abbrev pub Follows : List ℕ → List Line → Step → Conclusion → Type 0
 Follows bs b s c = stepping bs b s 0 ≡ found c
 

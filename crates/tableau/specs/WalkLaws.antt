@@ -6,6 +6,7 @@ use mathlib.Core.Path.{_≡_, refl, sym, ap, _∙_, subst}
 use Prim.Native.Nat.{ℕ, zero, suc, _+_, _-_, _*_, _≤_, _<_}
 use native.Mathlib.Nat.{le-refl, le-trans, le-antisymm, add-zero, sub-zero, max-le}
 use native.Mathlib.Omega.{arith}
+use native.Mathlib.Numerals.{add-one}
 use borrow.Author.Tests.{le-ltb, lt-ltb, ltb-true, ltb-false}
 use lib.Dec.{leb, ltb}
 use lib.ListN.{length}
@@ -36,12 +37,9 @@ use Rattle.tableau.specs.Walk.{pushed, concluded, Lent, remaining, Leave
 
 -- ---- `run`, step by step
 
-one-more : (k : ℕ) → suc k ≡ k + 1
-one-more k = omega arith
-
 steps-next : (ss : List ℕ) (s k : ℕ) → k < s → stepsFrom ss k (s - k) ≡ stepAt ss k ∷ stepsFrom ss (k + 1) (s - (k + 1))
 unfolding stepsFrom
-steps-next ss s k h = ap (stepsFrom ss k) left ∙ ap (λ (m : ℕ). stepAt ss k ∷ stepsFrom ss m (s - (k + 1))) (one-more k)
+steps-next ss s k h = ap (stepsFrom ss k) left ∙ ap (λ (m : ℕ). stepAt ss k ∷ stepsFrom ss m (s - (k + 1))) (sym (add-one k))
   where
     left : s - k ≡ suc (s - (k + 1))
     left = omega (arith, h)
@@ -72,7 +70,7 @@ module _ (bs ss : List ℕ) (s k : ℕ) (b : List Line) (ws : List (List Line)) 
       let con = stepConcludes bs b (stepAt ss k) in
       let rest = stepsFrom ss (k + 1) (s - (k + 1)) in
       ap (λ (l : List Step). run bs (b ∷ ws) l k c) (steps-next ss s k h)
-      ∙ ap (λ (m : ℕ). onward (branchCheck bs b (length ws) (stepAt ss k) k) (run bs (opened b con ++ ws) rest m (counted b con c))) (one-more k)
+      ∙ ap (λ (m : ℕ). onward (branchCheck bs b (length ws) (stepAt ss k) k) (run bs (opened b con ++ ws) rest m (counted b con c))) (sym (add-one k))
 
   -- "26, place s: a branch still open"
   run-open : s ≤ k

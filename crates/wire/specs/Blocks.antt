@@ -7,6 +7,7 @@ use mathlib.Core.Logic.{_⊎_, inl, inr}
 use Prim.Native.Nat.{ℕ, zero, suc, _+_, _*_, _≤_, _<_}
 use native.Mathlib.Nat.{not-suc-le-zero, le-of-suc-le-suc, add-zero}
 use native.Mathlib.Omega.{arith}
+use native.Mathlib.Numerals.{add-one}
 use borrow.Author.Tests.{ltb-true, ltb-false}
 use lib.Dec.{ltb}
 use lib.ListN.{length, getD, set, drop, length-set}
@@ -27,10 +28,7 @@ length-from xs p k (b ∷ bs) = length-from (set xs (p + k) b) p (suc k) bs ∙ 
 -- one byte is stored, and the rest after it
 pub from-next : (xs : List ℕ) (p k : ℕ) (bs : List ℕ) → k < length bs
     → putFrom (set xs (p + k) (getD bs k 0)) p (k + 1) (drop (k + 1) bs) ≡ putFrom xs p k (drop k bs)
-from-next xs p k bs h = rw (drop-cons bs k 0 h, one) refl
-  where
-    one : k + 1 ≡ suc k
-    one = omega arith
+from-next xs p k bs h = rw (drop-cons bs k 0 h, add-one k) refl
 
 -- outside the bytes stored nothing changes
 pub from-out : (xs : List ℕ) (p k : ℕ) (bs : List ℕ) (q : ℕ) → (q < p + k) ⊎ (p + k + length bs ≤ q)
