@@ -11,22 +11,20 @@ use lib.Dec.{eqb}
 use borrow.Author.Tests.{eqb-true, eq-eqb, not-true}
 use Rattle.pattern.specs.Checks.Tests.{or-is-true, and-is-true, or-left, or-right}
 use Rattle.nodeset.specs.declared.NodeSet.{NodeSet}
-use Rattle.nodeset.specs.Set.{width, has, lowestOf, isEmpty, emptySet, only, insert, insertIf, union, meet, minus, has-empty, has-only, has-insert, has-union, has-meet, has-minus}
-use Rattle.nodeset.specs.Members.{HasExactly, withoutLowest, still-there, lowest-gone, empty-none, lowest-member, member-some}
+use Rattle.nodeset.specs.Set.{width, has, lowestOf, isEmpty, emptySet, insert, insertIf, union, meet, minus, butLowest, has-empty, has-insert, has-union, has-meet, has-minus, has-but-lowest}
+use Rattle.nodeset.specs.Members.{HasExactly, still-there, lowest-gone, empty-none, lowest-member, member-some}
 
-still-gone : (s : NodeSet) (u : ℕ) → has s u ≡ false → has (withoutLowest s) u ≡ false
-still-gone s u h = rw (has-minus s (only (lowestOf s)) u, h)
+still-gone : (s : NodeSet) (u : ℕ) → has s u ≡ false → has (butLowest s) u ≡ false
+still-gone s u h = rw (has-but-lowest s u, h)
 
 -- what is gone was gone before or is the lowest
-gone-which : (s : NodeSet) (u : ℕ) → isEmpty s ≡ false → has (withoutLowest s) u ≡ false → (has s u ≡ false) ⊎ (u ≡ lowestOf s)
-gone-which s u h g = go (has s u) (eqb u (lowestOf s)) refl refl
+gone-which : (s : NodeSet) (u : ℕ) → has (butLowest s) u ≡ false → (has s u ≡ false) ⊎ (u ≡ lowestOf s)
+gone-which s u g = go (has s u) (eqb u (lowestOf s)) refl refl
   where
     go : (a b : Bool) → has s u ≡ a → eqb u (lowestOf s) ≡ b → (has s u ≡ false) ⊎ (u ≡ lowestOf s)
     go false b p q = inl p
     go true true p q = inr (eqb-true u (lowestOf s) q)
-    go true false p q =
-        let there : has (withoutLowest s) u ≡ true = rw (has-minus s (only (lowestOf s)) u, p, has-only (lowestOf s) u (lowest-member s h .0), q) in
-        absurd (false≢true (sym g ∙ there))
+    go true false p q = let there : has (butLowest s) u ≡ true = rw (has-but-lowest s u, p, q) in absurd (false≢true (sym g ∙ there))
 
 -- ---- the union of the rows of a set's members
 abbrev pub Image : (ℕ → NodeSet) → NodeSet → ℕ → Type 0
@@ -46,21 +44,21 @@ module _ (row : ℕ → NodeSet) (s : NodeSet) where
       }
 
   pub gathered-more : (rest sum : NodeSet) → isEmpty rest ≡ false → Gathered row s rest sum
-      → Gathered row s (withoutLowest rest) (union sum (row (lowestOf rest)))
+      → Gathered row s (butLowest rest) (union sum (row (lowestOf rest)))
   gathered-more rest sum h g = record { part = λ u m. g .part u (still-there rest u m); sum-is = λ v. (there v, back v) }
     where
       there : (v : ℕ) → has (union sum (row (lowestOf rest))) v ≡ true
-          → (u : ℕ) × ((has s u ≡ true) × (has (withoutLowest rest) u ≡ false) × (has (row u) v ≡ true))
+          → (u : ℕ) × ((has s u ≡ true) × (has (butLowest rest) u ≡ false) × (has (row u) v ≡ true))
       there v m = which (or-is-true (has sum v) (has (row (lowestOf rest)) v) (sym (has-union sum (row (lowestOf rest)) v) ∙ m))
         where
           which : (has sum v ≡ true) ⊎ (has (row (lowestOf rest)) v ≡ true)
-              → (u : ℕ) × ((has s u ≡ true) × (has (withoutLowest rest) u ≡ false) × (has (row u) v ≡ true))
+              → (u : ℕ) × ((has s u ≡ true) × (has (butLowest rest) u ≡ false) × (has (row u) v ≡ true))
           which (inl a) = let r = g .sum-is v .0 a in (r .0, (r .1 .0, still-gone rest (r .0) (r .1 .1), r .1 .2))
-          which (inr a) = (lowestOf rest, (g .part (lowestOf rest) (lowest-member rest h .1), lowest-gone rest h, a))
+          which (inr a) = (lowestOf rest, (g .part (lowestOf rest) (lowest-member rest h .1), lowest-gone rest, a))
 
-      back : (v : ℕ) → (u : ℕ) × ((has s u ≡ true) × (has (withoutLowest rest) u ≡ false) × (has (row u) v ≡ true))
+      back : (v : ℕ) → (u : ℕ) × ((has s u ≡ true) × (has (butLowest rest) u ≡ false) × (has (row u) v ≡ true))
           → has (union sum (row (lowestOf rest))) v ≡ true
-      back v r = has-union sum (row (lowestOf rest)) v ∙ which (gone-which rest (r .0) h (r .1 .1))
+      back v r = has-union sum (row (lowestOf rest)) v ∙ which (gone-which rest (r .0) (r .1 .1))
         where
           which : (has rest (r .0) ≡ false) ⊎ (r .0 ≡ lowestOf rest) → has sum v || has (row (lowestOf rest)) v ≡ true
           which (inl a) = or-left (has sum v) (has (row (lowestOf rest)) v) (g .sum-is v .1 (r .0, (r .1 .0, a, r .1 .2)))
@@ -79,9 +77,9 @@ module _ (P : ℕ → Type 0) (s : NodeSet) where
   pub searched-none : Searched P s s
   searched-none = record { part = λ u h. h; none = λ u m g p. false≢true (sym g ∙ m) }
 
-  pub searched-more : (rest : NodeSet) → isEmpty rest ≡ false → (P (lowestOf rest) → ⊥) → Searched P s rest → Searched P s (withoutLowest rest)
-  searched-more rest h never g =
-      record { part = λ u m. g .part u (still-there rest u m); none = λ u m a p. which u m p (gone-which rest u h a) }
+  pub searched-more : (rest : NodeSet) → (P (lowestOf rest) → ⊥) → Searched P s rest → Searched P s (butLowest rest)
+  searched-more rest never g =
+      record { part = λ u m. g .part u (still-there rest u m); none = λ u m a p. which u m p (gone-which rest u a) }
     where
       which : (u : ℕ) → has s u ≡ true → P u → (has rest u ≡ false) ⊎ (u ≡ lowestOf rest) → ⊥
       which u m p (inl a) = g .none u m a p

@@ -73,7 +73,7 @@ pub fn image(table: &[u8], axis: u8, s: NodeSet) -> NodeSet
     while !rest.is_empty() {
         let u = rest.lowest();
         reached = reached.union(successors(table, axis, u));
-        rest = rest.minus(NodeSet::only(u));
+        rest = rest.but_lowest();
     }
     reached
 }
@@ -127,7 +127,7 @@ pub fn some_pair(alike: &[u8], channel: u8, c: Comparison, s: NodeSet, t: NodeSe
         if has_partner(c, alike_to(alike, channel, u), t) {
             return true;
         }
-        rest = rest.minus(NodeSet::only(u));
+        rest = rest.but_lowest();
     }
     false
 }

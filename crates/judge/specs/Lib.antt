@@ -1,3 +1,6 @@
 -- In the order of reading.
 pub mod Together
+pub mod Packed
+pub mod Fitting
+pub mod Unpacked
 pub mod Readings

@@ -1,6 +1,8 @@
 // What a caller links: judging a model and judging a tableau. Each takes any bytes as pattern, as
 // proposal and as working area, and each contract says, beside its own finding, what that finding
 // rules out of the other judgement.
+pub mod exports;
+
 use model::judge::ModelFinding;
 use tableau::finding::TableauFinding;
 ghost use mathlib.Core.Path.{_≡_};

@@ -1,10 +1,11 @@
 -- The bits of a number, the bits of what the operations on words give, and the two counts of bits as counts of numbers that pass a test.
 -- Assumes nothing.
 use mathlib.Core.Path.{_≡_, refl, sym, ap, ap₂, _∙_}
-use mathlib.Core.Bool.{Bool, false, not, _&&_, _||_}
+use mathlib.Core.Bool.{Bool, true, false, not, _&&_, _||_}
 use Prim.Native.Nat.{ℕ, zero, suc, _+_, _-_, _/_, _%_, _^_, _<_, min, max}
 use native.Mathlib.Nat.{le-of-suc-le-suc, not-suc-le-zero, zero-lt-suc, mod-lt, div-one, zero-div, pow-suc, mul-comm, add-comm, add-assoc, div-div-eq-div-mul}
 use native.Mathlib.Omega.{arith}
+use borrow.Author.Tests.{eqb-true, eqb-false}
 use lib.Arith.{lt-one}
 use lib.Bits.{bitAnd, bitOr, bitXor, differ, and-step, or-step, xor-step, and-shr, or-shr, xor-shr}
 use lib.Count.{ones, ones-step, trailingZeros, under}
@@ -188,3 +189,44 @@ zeros-lowest (suc d) x =
 pub none-zero : (d x : ℕ) → x < 2 ^ d → ones x ≡ 0 → x ≡ 0
 none-zero zero x h e = lt-one h
 none-zero (suc d) x h e = omega (arith, none-zero d (x / 2) (half-lt d x h) (omega (arith, e, ones-step x)), e, ones-step x)
+
+-- ---- a number and the one before it
+
+-- below bit d, they share all bits of the first but the lowest
+shared : (d x k : ℕ) → k < d → (on k x && on k (x - 1)) ≡ (on k x && not (eqb k (lowestBelow d (λ j. on j x))))
+unfolding lowestBelow
+shared zero x k h = absurd (not-suc-le-zero h)
+shared (suc d) x zero h = go (on 0 x) (lowestBelow d (λ j. on (suc j) x)) refl
+  where
+    go : (t : Bool) (l : ℕ) → on 0 x ≡ t → (on 0 x && on 0 (x - 1)) ≡ (on 0 x && not (eqb 0 (pick t 0 (suc l))))
+    go true l e = ap (λ (b : Bool). on 0 x && b) (on-zero (x - 1) ∙ ap (λ (n : ℕ). eqb n 1) even)
+      where
+        even : (x - 1) % 2 ≡ 0
+        even = omega (arith, eqb-true (x % 2) 1 (sym (on-zero x) ∙ e))
+    go false l e = rw e
+shared (suc d) x (suc k) h = go (on 0 x) refl (shared d (x / 2) k (le-of-suc-le-suc h))
+  where
+    go : (t : Bool) → on 0 x ≡ t → (on k (x / 2) && on k (x / 2 - 1)) ≡ (on k (x / 2) && not (eqb k (lowestBelow d (λ j. on j (x / 2)))))
+        → (on (suc k) x && on (suc k) (x - 1)) ≡ (on (suc k) x && not (eqb (suc k) (pick t 0 (suc (lowestBelow d (λ j. on (suc j) x))))))
+    go true e f = rw (on-suc k x, on-suc k (x - 1), half, eqb·suc-zero k) (same (on k (x / 2)))
+      where
+        half : (x - 1) / 2 ≡ x / 2
+        half = omega (arith, eqb-true (x % 2) 1 (sym (on-zero x) ∙ e))
+
+        same : (b : Bool) → (b && b) ≡ (b && true)
+        same true = refl
+        same false = refl
+    go false e f =
+        rw (
+          on-suc k x,
+          on-suc k (x - 1),
+          half,
+          eqb·suc-suc k (lowestBelow d (λ j. on (suc j) x)),
+          lowest-same d (λ j. on (suc j) x) (λ j. on j (x / 2)) (λ j l. on-suc j x),
+        ) f
+      where
+        half : (x - 1) / 2 ≡ x / 2 - 1
+        half = omega (arith, eqb-false (x % 2) 1 (sym (on-zero x) ∙ e))
+
+pub on-and-less : (d x k : ℕ) → k < d → on k (bitAnd x (x - 1)) ≡ (on k x && not (eqb k (lowestBelow d (λ j. on j x))))
+on-and-less d x k h = on-and k x (x - 1) ∙ shared d x k h

@@ -5,11 +5,11 @@ use mathlib.Core.Bool.{Bool, true, false, _&&_, not, false≢true, and-false}
 use mathlib.Core.Logic.{_⊎_, inl, inr, _↔_}
 use Prim.Native.Nat.{ℕ, _<_}
 use native.Mathlib.Nat.{eq-or-lt-of-le}
-use lib.Dec.{ltb}
+use lib.Dec.{eqb, ltb}
 use borrow.Author.Tests.{eqb-true, eqb-false, eq-eqb, ltb-true, ltb-false}
 use Rattle.nodeset.specs.declared.NodeSet.{NodeSet}
 use Rattle.nodeset.specs.Below.{lowest-le, lowest-holds, lowest-first, none-count, count-none, count-fewer}
-use Rattle.nodeset.specs.Set.{width, has, lowestOf, sizeOf, isEmpty, only, minus, has-beyond, has-only, has-minus}
+use Rattle.nodeset.specs.Set.{width, has, lowestOf, sizeOf, isEmpty, butLowest, has-beyond, has-but-lowest}
 
 -- a set has exactly the numbers with P
 abbrev pub HasExactly : (ℕ → Type 0) → NodeSet → Type 0
@@ -52,19 +52,15 @@ member-below s u h = go (ltb u width) refl
     go false e = absurd (false≢true (sym (has-beyond s u (ltb-false u width e)) ∙ h))
 
 -- ---- a set without its lowest node
-abbrev pub withoutLowest : NodeSet → NodeSet
-withoutLowest s = minus s (only (lowestOf s))
 
-pub still-there : (s : NodeSet) (u : ℕ) → has (withoutLowest s) u ≡ true → has s u ≡ true
-still-there s u h = and-left (has s u) (not (has (only (lowestOf s)) u)) (sym (has-minus s (only (lowestOf s)) u) ∙ h)
+pub still-there : (s : NodeSet) (u : ℕ) → has (butLowest s) u ≡ true → has s u ≡ true
+still-there s u h = and-left (has s u) (not (eqb u (lowestOf s))) (sym (has-but-lowest s u) ∙ h)
 
-pub lowest-gone : (s : NodeSet) → isEmpty s ≡ false → has (withoutLowest s) (lowestOf s) ≡ false
-lowest-gone s h =
-    rw (has-minus s (only (lowestOf s)) (lowestOf s), has-only (lowestOf s) (lowestOf s) (lowest-member s h .0), eq-eqb (lowestOf s) (lowestOf s) refl)
-    (and-false (has s (lowestOf s)))
+pub lowest-gone : (s : NodeSet) → has (butLowest s) (lowestOf s) ≡ false
+lowest-gone s = rw (has-but-lowest s (lowestOf s), eq-eqb (lowestOf s) (lowestOf s) refl) (and-false (has s (lowestOf s)))
 
 -- it has fewer nodes
-pub fewer : (s : NodeSet) → isEmpty s ≡ false → sizeOf (withoutLowest s) < sizeOf s
+pub fewer : (s : NodeSet) → isEmpty s ≡ false → sizeOf (butLowest s) < sizeOf s
 fewer s h =
     let l = lowest-member s h in
-    count-fewer width (has (withoutLowest s)) (has s) (lowestOf s) (l .0) (still-there s) (lowest-gone s h) (l .1)
+    count-fewer width (has (butLowest s)) (has s) (lowestOf s) (l .0) (still-there s) (lowest-gone s) (l .1)

@@ -1,17 +1,17 @@
 -- Sets of nodes: which nodes a set has, and the operations on sets by what they have. The definitions are made of bits;
 -- the laws, `has-..`, say what each set has, and the rest of the program rests on them alone.
 -- Assumes nothing.
-use mathlib.Core.Path.{_≡_, refl, ap, _∙_}
+use mathlib.Core.Path.{_≡_, refl, sym, ap, ap₂, _∙_}
 use mathlib.Core.Bool.{Bool, true, false, not, _&&_, _||_, false≢true, and-false}
 use Prim.Native.Nat.{ℕ, _-_, _^_, _≤_, _<_}
 use native.Mathlib.Nat.{lt-of-lt-of-le}
 use native.Mathlib.Omega.{arith}
-use borrow.Author.Tests.{lt-ltb, le-ltb, ltb-true, eqb-true}
+use borrow.Author.Tests.{lt-ltb, le-ltb, ltb-true, ltb-false, eqb-true}
 use lib.Bits.{bitAnd, bitOr, bitXor}
 use lib.Dec.{eqb, ltb}
 use Rattle.nodeset.specs.declared.NodeSet.{NodeSet}
-use Rattle.nodeset.specs.Below.{lowestBelow, countBelow}
-use Rattle.nodeset.specs.Bits.{on, on-none, on-power, on-ones, on-or, on-and, on-minus}
+use Rattle.nodeset.specs.Below.{lowestBelow, countBelow, lowest-same}
+use Rattle.nodeset.specs.Bits.{on, on-none, on-power, on-ones, on-or, on-and, on-minus, on-and-less}
 
 -- 01: "node count n (one byte, 1 to 64)": the nodes that a set can have are the numbers below it
 abbrev pub width : ℕ
@@ -66,11 +66,20 @@ meet s t = record { bits = bitAnd (s .bits) (t .bits) }
 unfoldable pub minus : NodeSet → NodeSet → NodeSet
 minus s t = record { bits = bitXor (s .bits) (bitAnd (s .bits) (t .bits)) }
 
+-- the set without its lowest node
+unfoldable pub butLowest : NodeSet → NodeSet
+butLowest s = record { bits = bitAnd (s .bits) (s .bits - 1) }
+
 -- ---- what they have
 
 pub has-beyond : (s : NodeSet) (u : ℕ) → width ≤ u → has s u ≡ false
 unfolding has
 has-beyond s u h = ap (λ (t : Bool). t && on u (s .bits)) (le-ltb u width h)
+
+-- below the width, a set has the nodes of its word's bits
+pub on-has : (s : NodeSet) (u : ℕ) → u < width → on u (s .bits) ≡ has s u
+unfolding has
+on-has s u h = sym (ap (λ (t : Bool). t && on u (s .bits)) (lt-ltb u width h))
 
 -- a test that passes only below the width is not changed by the test of the width
 within : (u : ℕ) (t : Bool) → (t ≡ true → u < width) → (ltb u width && t) ≡ t
@@ -133,3 +142,17 @@ pub has-minus : (s t : NodeSet) (u : ℕ) → has (minus s t) u ≡ has s u && n
 unfolding has minus
 has-minus s t u =
     ap (λ (b : Bool). ltb u width && b) (on-minus u (s .bits) (t .bits)) ∙ spread-not (ltb u width) (on u (s .bits)) (on u (t .bits))
+
+pub has-but-lowest : (s : NodeSet) (u : ℕ) → has (butLowest s) u ≡ has s u && not (eqb u (lowestOf s))
+unfolding butLowest
+has-but-lowest s u = go (ltb u width) refl
+  where
+    inside : u < width → has (butLowest s) u ≡ has s u && not (eqb u (lowestOf s))
+    inside h =
+        sym (on-has (butLowest s) u h)
+        ∙ on-and-less width (s .bits) u h
+        ∙ ap₂ (λ (t : Bool) (l : ℕ). t && not (eqb u l)) (on-has s u h) (lowest-same width (λ k. on k (s .bits)) (has s) (on-has s))
+
+    go : (t : Bool) → ltb u width ≡ t → has (butLowest s) u ≡ has s u && not (eqb u (lowestOf s))
+    go true e = inside (ltb-true u width e)
+    go false e = let far = ltb-false u width e in rw (has-beyond (butLowest s) u far, has-beyond s u far)

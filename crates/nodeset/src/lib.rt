@@ -1,8 +1,9 @@
 // Sets of nodes. Only this crate knows how a set is made of bits.
 ghost use mathlib.Core.Path.{_≡_};
+ghost use mathlib.Core.Bool.{false};
 ghost use Prim.Native.Nat.{_+_, _≤_, _<_};
 ghost use lib.ListN.{length};
-ghost use Rattle.nodeset.specs.Set.{width, has, lowestOf, sizeOf, isEmpty, emptySet, below, only, insert, insertIf, union, meet, minus};
+ghost use Rattle.nodeset.specs.Set.{width, has, lowestOf, sizeOf, isEmpty, emptySet, below, only, insert, insertIf, union, meet, minus, butLowest};
 ghost use Rattle.nodeset.specs.Stored.{tableBytes, bitsAt, bytesOf, setAt, put};
 
 // A set of the nodes below WIDTH: node u is in it where bit u is 1.
@@ -107,6 +108,16 @@ impl NodeSet {
         ensures { λ r. ⌜ r ≡ lowestOf self ⌝ }
     {
         u64::trailing_zeros(self.bits) as u8
+    }
+
+    // The set without its lowest node.
+    pub fn but_lowest(self) -> NodeSet
+        requires { ⌜ isEmpty self ≡ false ⌝ }
+        ensures { λ r. ⌜ r ≡ butLowest self ⌝ }
+    {
+        NodeSet {
+            bits: self.bits & (self.bits - 1),
+        }
     }
 
     pub fn count(self) -> u8

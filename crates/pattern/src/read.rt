@@ -13,11 +13,12 @@ use crate::types::NameMade;
 use crate::types::Property;
 use crate::types::PropertyMade;
 ghost use mathlib.Core.Path.{_≡_};
-ghost use Prim.Native.Nat.{_+_, _*_, _≤_};
+ghost use Prim.Native.Nat.{_+_, _*_, _≤_, _<_};
 ghost use lib.ListN.{length};
 ghost use Rattle.pattern.specs.Checks.Range.{eachBelow};
 ghost use Rattle.pattern.specs.File.Fields.{eachField};
 ghost use Rattle.pattern.specs.File.Entries.{sameBytes};
+ghost use Rattle.pattern.specs.File.Words.{IsEntryWord};
 ghost use Rattle.pattern.specs.File.Reading.{inRange, sortAt, earlierSort, refersBack, fieldTest, repeatsAt, headerCheck, entryCheck, readingOf, numberOf, placeOf, checkOf, findingOf};
 
 // Document 01's refusals 1 to 8; those that have a place hold the entry's number.
@@ -183,39 +184,45 @@ fn fields_pass(p: &[u8], k: u8, test: FieldTest, e: Entry) -> bool
     field_passes(p, k, test, z, e.z)
 }
 
+// A byte, wide enough to be multiplied.
+fn wide(byte: u8) -> u32
+    ensures { λ r. ⌜ (r ≡ byte) × (r < 256) ⌝ }
+{
+    byte as u32
+}
+
+// The four bytes of entry k as one number.
+fn entry_word(p: &[u8], k: u8) -> u32
+    requires { ⌜ 10 + 4 * k ≤ length (now p) ⌝ }
+    ensures { λ r. ⌜ IsEntryWord (now (p .entry)) k r ⌝ }
+{
+    let at = 6 + 4 * (k as usize);
+    wide(p[at]) + 256 * (wide(p[at + 1]) + 256 * (wide(p[at + 2]) + 256 * wide(p[at + 3])))
+}
+
 // Whether entries j and k have the same four bytes.
 fn same_entry(p: &[u8], j: u8, k: u8) -> bool
     requires { ⌜ 10 + 4 * j ≤ length (now p) ⌝ }
     requires { ⌜ 10 + 4 * k ≤ length (now p) ⌝ }
     ensures { λ r. ⌜ r ≡ sameBytes (now (p .entry)) j k ⌝ }
 {
-    let a = 6 + 4 * (j as usize);
-    let b = 6 + 4 * (k as usize);
-    if p[a] != p[b] {
-        return false;
-    }
-    if p[a + 1] != p[b + 1] {
-        return false;
-    }
-    if p[a + 2] != p[b + 2] {
-        return false;
-    }
-    p[a + 3] == p[b + 3]
+    entry_word(p, j) == entry_word(p, k)
 }
 
-// Whether entry k is equal to an earlier one, looked for from the nearest back.
+// Whether entry k is equal to an earlier one. Every earlier one is compared, without a way out of the
+// loop, so that the compiler can compare many at once.
 fn repeats(p: &[u8], k: u8) -> bool
     requires { ⌜ 10 + 4 * k ≤ length (now p) ⌝ }
     ensures { λ r. ⌜ r ≡ repeatsAt (now (p .entry)) k ⌝ }
 {
-    let mut j = k;
-    while 0 < j {
-        j -= 1;
-        if same_entry(p, j, k) {
-            return true;
-        }
+    let mut repeated = false;
+    let mut j = 0;
+    while j < k {
+        let same = same_entry(p, j, k);
+        repeated = repeated | same;
+        j += 1;
     }
-    false
+    repeated
 }
 
 // Refusals 1 to 3.

@@ -1,12 +1,14 @@
 -- Lines in lent bytes, eight a line.
 -- Assumes nothing.
 use mathlib.Core.Path.{_≡_, refl, sym, ap, _∙_}
-use mathlib.Core.Bool.{false, _||_}
+use mathlib.Core.Bool.{false, not, _&&_, _||_, or-false}
 use mathlib.Core.List.{List, [], _∷_, _++_}
 use Prim.Native.Nat.{ℕ, zero, suc, _+_, _-_, _*_, _≤_, _<_}
 use native.Mathlib.Nat.{not-suc-le-zero, le-of-suc-le-suc, le-refl, add-zero, zero-add}
 use native.Mathlib.Omega.{arith}
 use native.Mathlib.Numerals.{add-one}
+use borrow.Author.Tests.{lt-ltb}
+use lib.Dec.{eqb, ltb}
 use lib.ListN.{length, getD}
 use Rattle.wire.specs.Blocks.{putFrom, length-from, from-out, from-in, apart}
 use Rattle.pattern.specs.declared.types.Channel.{Channel}
@@ -85,6 +87,21 @@ form-beyond zero b c d e f g h x y z = absurd (x refl)
 form-beyond (suc zero) b c d e f g h x y z = absurd (y refl)
 form-beyond (suc (suc zero)) b c d e f g h x y z = absurd (z refl)
 form-beyond (suc (suc (suc n))) b c d e f g h x y z = refl
+
+-- the names of a line are at bytes 2 and 3, those of a comparison at 4 and 6; a line of the first form has one
+form-has : (n b c d e f g h i : ℕ)
+    → lineHas (lineOfForm n b c d e f g h) i ≡ (ltb 2 n && (eqb e i || eqb g i) || not (ltb 2 n) && (eqb c i || (not (eqb n 0) && eqb d i)))
+form-has zero b c d e f g h i = sym (or-false (eqb c i))
+form-has (suc zero) b c d e f g h i = refl
+form-has (suc (suc zero)) b c d e f g h i = refl
+form-has (suc (suc (suc n))) b c d e f g h i = rw (lt-ltb 2 (suc (suc (suc n))) (omega arith)) (sym (or-false (eqb e i || eqb g i)))
+
+pub line-has : (xs : List ℕ) (k i : ℕ)
+    → lineHas (lineAt xs k) i
+    ≡ (ltb 2 (getD xs (8 * k) 0) && (eqb (getD xs (8 * k + 4) 0) i || eqb (getD xs (8 * k + 6) 0) i)
+    || not (ltb 2 (getD xs (8 * k) 0)) && (eqb (getD xs (8 * k + 2) 0) i || (not (eqb (getD xs (8 * k) 0) 0) && eqb (getD xs (8 * k + 3) 0) i)))
+unfolding lineAt
+line-has xs k i = rw form-has refl
 
 sign-back : (s : Sign) → signAt (signNumber s) ≡ s
 sign-back Sign.Positive = refl

@@ -1,5 +1,5 @@
 // Names that are fresh: "not used in the pattern and on no line of the branch".
-use crate::stored::load;
+use crate::stored::line_has;
 use pattern::names::uses_name;
 use pattern::types::Name;
 ghost use mathlib.Core.Path.{_≡_};
@@ -20,7 +20,7 @@ fn branch_has(area: &&[u8], from: usize, len: usize, name: Name) -> bool
     if from == len {
         return false;
     }
-    if load(*area, from).has_name(name) {
+    if line_has(*area, from, name) {
         return true;
     }
     branch_has(area, from + 1, len, name)

@@ -5,9 +5,7 @@ use pattern::types::Comparison;
 use pattern::types::Name;
 use pattern::types::Sign;
 ghost use mathlib.Core.Path.{_≡_};
-ghost use mathlib.Core.Bool.{_||_};
-ghost use lib.Dec.{eqb};
-ghost use Rattle.rules.specs.Lines.{has, is, leads, side, compare, lineHas};
+ghost use Rattle.rules.specs.Lines.{has, is, leads, side, compare};
 ghost use Rattle.rules.specs.Rules.{channelAt, withLeft};
 
 // "i has or lacks φ"; φ is a node entry's number.
@@ -52,34 +50,6 @@ pub enum Line {
     Is(IsLine),
     Edge(EdgeLine),
     Compare(CompareLine),
-}
-
-impl Line {
-    // Whether the line has the name.
-    pub fn has_name(self, name: Name) -> bool
-        ensures { λ r. ⌜ r ≡ lineHas self (name .number) ⌝ }
-    {
-        match self {
-            Line::Has(l) => l.name.number == name.number,
-            Line::Is(l) => either(l.first, l.second, name),
-            Line::Edge(l) => either(l.from, l.to, name),
-            Line::Compare(l) => {
-                let left = l.left;
-                let right = l.right;
-                either(left.name, right.name, name)
-            }
-        }
-    }
-}
-
-// Whether one of the two is the name.
-fn either(first: Name, second: Name, name: Name) -> bool
-    ensures { λ r. ⌜ r ≡ (eqb (first .number) (name .number) || eqb (second .number) (name .number)) ⌝ }
-{
-    if first.number == name.number {
-        return true;
-    }
-    second.number == name.number
 }
 
 pub fn has_line(sign: Sign, name: Name, node: u8) -> Line

@@ -14,6 +14,7 @@ ghost use mathlib.Core.Path.{_≡_};
 ghost use Prim.Native.Nat.{_+_, _*_, _≤_};
 ghost use lib.ListN.{length};
 ghost use Rattle.rules.specs.declared.line.Line.{Line};
+ghost use Rattle.rules.specs.Lines.{lineHas};
 ghost use Rattle.rules.specs.Stored.{signNumber, signAt, comparisonNumber, comparisonAt, bytesOf, compareOf, lineAt, putLine};
 
 fn sign_number(sign: Sign) -> u8
@@ -159,6 +160,20 @@ pub fn load(area: &[u8], k: usize) -> Line
         area[at + 6],
         area[at + 7],
     ])
+}
+
+// Whether line k of the area has the name. The names are at bytes 2 and 3, those of a comparison at 4 and
+// 6; a line of form 0 has one.
+pub fn line_has(area: &[u8], k: usize, name: Name) -> bool
+    requires { ⌜ 8 * (k + 1) ≤ length (now area) ⌝ }
+    ensures { λ r. ⌜ r ≡ lineHas (lineAt (now (area .entry)) k) (name .number) ⌝ }
+{
+    let at = 8 * k;
+    let n = name.number;
+    let compares = 2 < area[at];
+    let sides = (area[at + 4] == n) | (area[at + 6] == n);
+    let names = (area[at + 2] == n) | ((area[at] != 0) & (area[at + 3] == n));
+    (compares & sides) | (!compares & names)
 }
 
 // Line k of the area becomes this one.

@@ -3,8 +3,7 @@
 use mathlib.Core.Path.{_≡_, refl}
 use mathlib.Core.Bool.{Bool, true, false, _||_, or-true, false≢true}
 use mathlib.Core.Logic.{_⊎_, inl, inr}
-use Prim.Native.Nat.{ℕ, zero, suc, _-_, _≤_, _<_}
-use native.Mathlib.Omega.{arith}
+use Prim.Native.Nat.{ℕ, zero, suc, _<_}
 use native.Mathlib.Nat.{not-suc-le-zero, le-of-suc-le-suc, eq-or-lt-of-le, lt-trans, lt-suc-self}
 use Rattle.pattern.specs.Checks.Tests.{or-is-false, or-is-true}
 use Rattle.pattern.specs.Checks.Finding.{Check, passes, refuses, _then_, then-passes}
@@ -82,12 +81,3 @@ module _ (check : ℕ → Check) where
           → check k ≡ passes
       go (inl p) b f = rw p (b .1)
       go (inr l) b f = f l
-
--- what holds from j up to k, and just below j, holds from there up to k
-pub above-less : (P : ℕ → Type 0) (j k : ℕ) → 0 < j → ((i : ℕ) → j ≤ i → i < k → P i) → P (j - 1)
-    → (i : ℕ) → j - 1 ≤ i → i < k → P i
-above-less P j k pos above here i h l = go (eq-or-lt-of-le h)
-  where
-    go : (j - 1 ≡ i) ⊎ (j - 1 < i) → P i
-    go (inl e) = rw e at here
-    go (inr g) = above i (omega arith) l

@@ -4,7 +4,7 @@ use mathlib.Core.Path.{_≡_, sym, _∙_}
 use mathlib.Core.Bool.{false}
 use Prim.Native.Nat.{_-_}
 use borrow.Author.Tests.{not-true, not-false}
-use Rattle.nodeset.specs.Set.{has, sizeOf, isEmpty}
+use Rattle.nodeset.specs.Set.{sizeOf, isEmpty}
 use Rattle.nodeset.specs.Stored.{setAt}
 use Rattle.nodeset.specs.Members.{lowest-member, fewer}
 use Rattle.evaluation.specs.Tables.{successorsRow}
@@ -18,8 +18,7 @@ use Rattle.evaluation.proofs.relations.successors.Reads as successors-r
 use Rattle.nodeset.proofs.NodeSet.empty.Reads as empty-reads
 use Rattle.nodeset.proofs.NodeSet.is_empty.Reads as is-empty-reads
 use Rattle.nodeset.proofs.NodeSet.lowest.Reads as lowest-reads
-use Rattle.nodeset.proofs.NodeSet.minus.Reads as minus-reads
-use Rattle.nodeset.proofs.NodeSet.only.Reads as only-reads
+use Rattle.nodeset.proofs.NodeSet.but_lowest.Reads as but-lowest-reads
 use Rattle.nodeset.proofs.NodeSet.union.Reads as union-reads
 
 abbrev Inv-loop : tie.InvT-loop
@@ -50,18 +49,15 @@ successors-requires c κs = let p = c .before .before .before .before .before .b
 union-requires : tie.Need-union-requires Inv-loop μ-loop
 union-requires c κs = search needs
 
-only-requires : tie.Need-only-requires Inv-loop μ-loop
-only-requires c κs = let l = c .before .before in rw (l .lowest .ensures) (lowest-member _ (nonempty (l .before)) .0)
-
-minus-requires : tie.Need-minus-requires Inv-loop μ-loop
-minus-requires c κs = search needs
+but-lowest-requires : tie.Need-but-lowest-requires Inv-loop μ-loop
+but-lowest-requires c κs = nonempty (c .before .before .before)
 
 loop-less : tie.Need-loop-less Inv-loop μ-loop
-loop-less c = let l = c .before .before .before .before in rw (c .minus .ensures, c .before .only .ensures, l .lowest .ensures) (fewer _ (nonempty (l .before)))
+loop-less c = let l = c .before .before .before in rw (c .but-lowest .ensures) (fewer _ (nonempty (l .before)))
 
 loop-again : tie.Need-loop-again Inv-loop μ-loop
-loop-again c = let l = c .before .before .before .before in
-    rw (c .minus .ensures, c .before .only .ensures, c .before .before .union .ensures, c .before .before .before .successors .ensures, l .lowest .ensures)
+loop-again c = let l = c .before .before .before in
+    rw (c .but-lowest .ensures, c .before .union .ensures, c .before .before .successors .ensures, l .lowest .ensures)
     (gathered-more _ _ _ _ (nonempty (l .before)) (l .before .before .before .loop .inv))
 
 returns : tie.Need-returns Inv-loop μ-loop
@@ -79,8 +75,7 @@ image-spec =
     lowest-requires
     successors-requires
     union-requires
-    only-requires
-    minus-requires
+    but-lowest-requires
     loop-less
     loop-again
     returns)

@@ -21,8 +21,7 @@ use Rattle.evaluation.proofs.relations.alike_to.Reads as alike-to-reads
 use Rattle.evaluation.proofs.relations.has_partner.Reads as has-partner-reads
 use Rattle.nodeset.proofs.NodeSet.is_empty.Reads as is-empty-reads
 use Rattle.nodeset.proofs.NodeSet.lowest.Reads as lowest-reads
-use Rattle.nodeset.proofs.NodeSet.minus.Reads as minus-reads
-use Rattle.nodeset.proofs.NodeSet.only.Reads as only-reads
+use Rattle.nodeset.proofs.NodeSet.but_lowest.Reads as but-lowest-reads
 
 abbrev Inv-loop : tie.InvT-loop
 Inv-loop alike channel c t rest₀ rest = Searched (λ u. Partner c (setAt alike (alikeRow channel u)) t) rest₀ rest
@@ -65,19 +64,16 @@ returns : tie.Need-returns Inv-loop μ-loop
 returns c = let l = c .before .before .before in
     (λ h. (_, (searched-found _ _ _ (nonempty (l .before)) (l .before .before .before .loop .inv), asks (c .before) .0 (c .if2 .taken))), λ h. refl)
 
-only-requires : tie.Need-only-requires Inv-loop μ-loop
-only-requires c κs = let l = c .before .before .before in rw (l .lowest .ensures) (lowest-member _ (nonempty (l .before)) .0)
-
-minus-requires : tie.Need-minus-requires Inv-loop μ-loop
-minus-requires c κs = search needs
+but-lowest-requires : tie.Need-but-lowest-requires Inv-loop μ-loop
+but-lowest-requires c κs = nonempty (c .before .before .before .before)
 
 loop-less : tie.Need-loop-less Inv-loop μ-loop
-loop-less c = let l = c .before .before .before .before .before in rw (c .minus .ensures, c .before .only .ensures, l .lowest .ensures) (fewer _ (nonempty (l .before)))
+loop-less c = let l = c .before .before .before .before in rw (c .but-lowest .ensures) (fewer _ (nonempty (l .before)))
 
 loop-again : tie.Need-loop-again Inv-loop μ-loop
-loop-again c = let l = c .before .before .before .before .before in
-    rw (c .minus .ensures, c .before .only .ensures, l .lowest .ensures)
-    (searched-more _ _ _ (nonempty (l .before)) (λ h. false≢true (sym (c .before .before .if2 .left) ∙ asks (c .before .before .before) .1 h)) (l .before .before .before .loop .inv))
+loop-again c = let l = c .before .before .before .before in
+    rw (c .but-lowest .ensures)
+    (searched-more _ _ _ (λ h. false≢true (sym (c .before .if2 .left) ∙ asks (c .before .before) .1 h)) (l .before .before .before .loop .inv))
 
 returns-2 : tie.Need-returns-2 Inv-loop μ-loop
 returns-2 c = (λ h. absurd (false≢true h), λ h. absurd (searched-all _ _ _ (sym (c .before .is-empty .ensures) ∙ not-false _ (c .if1 .left)) (c .before .before .loop .inv) (h .0) (h .1 .0) (h .1 .1)))
@@ -94,8 +90,7 @@ some-pair-spec =
     alike-to-requires
     has-partner-requires
     returns
-    only-requires
-    minus-requires
+    but-lowest-requires
     loop-less
     loop-again
     returns-2)

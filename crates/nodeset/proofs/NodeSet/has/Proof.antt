@@ -1,7 +1,7 @@
 -- `nodeset::NodeSet::has` meets its contract: below the width, the set has the nodes of its bits.
 -- Assumes nothing.
 use borrow.Author.Needs.{needs}
-use Rattle.nodeset.proofs.Counted.{on-has}
+use Rattle.nodeset.specs.Set.{on-has}
 use Rattle.nodeset.proofs.NodeSet.has.Statement.{statement}
 use Rattle.nodeset.proofs.NodeSet.has.Tie as tie
 

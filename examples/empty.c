@@ -1,0 +1,22 @@
+/* Judges nothing at all from C: a pointer may be NULL where its length is 0, and no bytes are no pattern. */
+#include "riser.h"
+
+#include <stdio.h>
+
+/* Whether the answer is the refusal of a pattern without its mark; if not, names the function. */
+static int refuses(const char *function, uint64_t answer)
+{
+    if (riser_kind(answer) == RISER_REFUSED && riser_part(answer, 0) == 1)
+        return 1;
+    fprintf(stderr, "empty: %s answered kind %d, number %u for no bytes\n", function, riser_kind(answer),
+            riser_part(answer, 0));
+    return 0;
+}
+
+int main(void)
+{
+    int read = refuses("riser_read", riser_read(NULL, 0));
+    int model = refuses("riser_judge_model", riser_judge_model(NULL, 0, NULL, 0, NULL, 0));
+    int tableau = refuses("riser_judge_tableau", riser_judge_tableau(NULL, 0, NULL, 0, NULL, 0));
+    return read && model && tableau ? 0 : 1;
+}

@@ -1,0 +1,138 @@
+//! A pattern as a formula.
+//!
+//! Entries are shared, so a formula written out in full could be of exponential length. Each entry is written
+//! once, in terms of the labels e0, e1, ... of earlier ones; an entry is written inside another only if its text
+//! is tiny, or if that is its one use and its text is short.
+
+use super::wording::count;
+use crate::pattern::{Comparison, Entry, Path, Pattern};
+use std::fmt;
+
+/// The longest text, in characters, that is written inside the one entry that refers to it.
+const SHORT: usize = 30;
+/// The longest text that is written inside any number of entries.
+const TINY: usize = 8;
+
+const NOTATION: &str = "\
+Notation: pN property, nN name, !f not, (f & g) both, <aN>f after on axis N, [x = y on cN] same and
+[x != y on cN] differ on channel N; paths: /aN step, @nN jump, ?f test, {x | y} fork, . end of path;
+eN the entry of that number";
+
+pub struct Formula<'a> {
+    pattern: &'a Pattern,
+    /// Each entry's text, in terms of the labels of those before it.
+    texts: Vec<String>,
+    /// Whether the entry has a line of its own and is mentioned by its label.
+    labelled: Vec<bool>,
+}
+
+impl<'a> Formula<'a> {
+    pub fn new(pattern: &'a Pattern) -> Self {
+        let uses = use_counts(pattern);
+        let mut formula = Formula { pattern, texts: Vec::new(), labelled: Vec::new() };
+        for (number, entry) in pattern.entries.iter().enumerate() {
+            let text = formula.written(entry);
+            let longest_inside = match uses[number] {
+                0 => 0,
+                1 => SHORT,
+                _ => TINY,
+            };
+            formula.labelled.push(text.len() > longest_inside);
+            formula.texts.push(text);
+        }
+        formula
+    }
+
+    /// The entry's text.
+    pub fn text(&self, entry: usize) -> &str {
+        &self.texts[entry]
+    }
+
+    /// The path's text.
+    pub fn path(&self, path: Path) -> &str {
+        path.map_or(".", |entry| self.text(entry))
+    }
+
+    /// The root's number.
+    pub fn root(&self) -> usize {
+        self.texts.len() - 1
+    }
+
+    fn written(&self, entry: &Entry) -> String {
+        match *entry {
+            Entry::Property(property) => format!("p{property}"),
+            Entry::Name(name) => format!("n{name}"),
+            Entry::Not(phi) => format!("!{}", self.mention(phi)),
+            Entry::Both(phi, psi) => format!("({} & {})", self.mention(phi), self.mention(psi)),
+            Entry::After(axis, phi) => format!("<a{axis}>{}", self.mention(phi)),
+            Entry::Compare(comparison, channel, alpha, beta) => {
+                format!("[{} {} {} on c{channel}]", self.whole(alpha), sign(comparison), self.whole(beta))
+            }
+            Entry::Step(axis, alpha) => format!("/a{axis}{}", self.rest(alpha)),
+            Entry::Jump(name, alpha) => format!("@n{name}{}", self.rest(alpha)),
+            Entry::Test(phi, alpha) => format!("?{}{}", self.mention(phi), self.rest(alpha)),
+            Entry::Fork(alpha, beta) => format!("{{{} | {}}}", self.whole(alpha), self.whole(beta)),
+        }
+    }
+
+    /// The entry inside another's text.
+    fn mention(&self, entry: usize) -> String {
+        if self.labelled[entry] { format!("e{entry}") } else { self.texts[entry].clone() }
+    }
+
+    /// A whole path inside an entry's text.
+    fn whole(&self, path: Path) -> String {
+        path.map_or(".".to_string(), |entry| self.mention(entry))
+    }
+
+    /// The rest of a path after its first part: nothing at the end of path.
+    fn rest(&self, path: Path) -> String {
+        match path {
+            Some(entry) if self.labelled[entry] => format!(" e{entry}"),
+            Some(entry) => self.texts[entry].clone(),
+            None => String::new(),
+        }
+    }
+}
+
+/// How a comparison is written.
+pub fn sign(comparison: Comparison) -> &'static str {
+    match comparison {
+        Comparison::Same => "=",
+        Comparison::Differ => "!=",
+    }
+}
+
+impl fmt::Display for Formula<'_> {
+    fn fmt(&self, f: &mut fmt::Formatter<'_>) -> fmt::Result {
+        let entries = count(self.texts.len(), "entry", "entries");
+        writeln!(f, "Pattern of {entries}, the root is e{}:", self.root())?;
+        let reached = reached(self.pattern);
+        for (number, text) in self.texts.iter().enumerate().filter(|(number, _)| self.labelled[*number]) {
+            let note = if reached[number] { "" } else { "   (the root doesn't reach it)" };
+            writeln!(f, "  e{number} := {text}{note}")?;
+        }
+        writeln!(f, "{NOTATION}")
+    }
+}
+
+/// How often each entry is referred to.
+fn use_counts(pattern: &Pattern) -> Vec<usize> {
+    let mut counts = vec![0; pattern.entries.len()];
+    for referred in pattern.entries.iter().flat_map(Entry::references) {
+        counts[referred] += 1;
+    }
+    counts
+}
+
+/// Which entries the root reaches. References go to earlier entries, so one sweep backwards finds all.
+fn reached(pattern: &Pattern) -> Vec<bool> {
+    let mut reached = vec![false; pattern.entries.len()];
+    reached[pattern.entries.len() - 1] = true;
+    for number in (0..pattern.entries.len()).rev() {
+        if reached[number] {
+            pattern.entries[number].references().for_each(|referred| reached[referred] = true);
+        }
+    }
+    reached
+}

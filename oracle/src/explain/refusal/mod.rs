@@ -1,0 +1,57 @@
+//! A refusal in a sentence: what its number means, and what stands at its place.
+
+mod file;
+mod step;
+
+pub use file::{of_model, of_pattern, of_tableau};
+pub use step::of_step;
+
+use crate::finding::{Finding, Refusal};
+
+/// The finding, the meaning of its number, and what was found at its place.
+fn sentence(refusal: Refusal, detail: &str) -> String {
+    format!("Finding: {}.\n{detail}\n", refused(refusal))
+}
+
+/// The refusal as the bench program prints it, what its place is, and what its number means.
+pub fn refused(refusal: Refusal) -> String {
+    let Refusal { number, place } = refusal;
+    let where_at = match number {
+        4..=8 => format!(", entry {place}"),
+        13 => format!(", name record {place}"),
+        14 => format!(", edge record {place}"),
+        19..=25 => format!(", step {place}"),
+        _ => String::new(),
+    };
+    format!("{}{where_at}: {}", Finding::Refused(refusal), MEANINGS[number as usize - 1])
+}
+
+/// By refusal number, from 1: what document 01 says of it.
+const MEANINGS: [&str; 26] = [
+    "the pattern file has under 6 bytes or doesn't begin with PAT",
+    "the pattern file's version isn't 1",
+    "the number of entries is zero, or the pattern file's length isn't 6 + 4 for each",
+    "its kind isn't one of 1 to 11",
+    "a field is out of range, or an unused one isn't zero",
+    "a reference isn't an earlier entry of the wanted sort",
+    "it equals an earlier entry",
+    "it is the root, and is a path",
+    "the working area is too short",
+    "the model file has under 9 bytes or doesn't begin with DAT",
+    "the model file's version isn't 1",
+    "a count is out of range (nodes 1 to 64, names up to 128, edges up to 4096), or the length doesn't fit them",
+    "the name or the node is out of range, or an earlier record has the name",
+    "a field is out of range",
+    "the tableau file has under 8 bytes or doesn't begin with TAB",
+    "the tableau file's version isn't 1",
+    "the number of steps isn't 1 to 4096, or the tableau file's length isn't 8 + 6 for each",
+    "the start name is over 127 or used in the pattern",
+    "there is no such rule",
+    "a line that it uses isn't on the branch, or a field that its rule doesn't use isn't zero",
+    "the lines or the argument don't fit the rule",
+    "the name isn't fresh",
+    "it would bring the branch over 1024 lines",
+    "it forks while 64 right sides already wait",
+    "all branches are already closed",
+    "the steps are at an end and a branch is still open",
+];

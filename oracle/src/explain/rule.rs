@@ -1,0 +1,67 @@
+//! The rules' names, what each says after document 01's list, and steps in words.
+
+use super::formula::Formula;
+use super::wording::numbered;
+use crate::tableau::line::Line;
+use crate::tableau::rules::{Step, uses_q};
+
+/// A rule's name and what it says; `None` for a rule that there isn't.
+pub fn described(rule: u8) -> Option<(&'static str, &'static str)> {
+    RULES.get((rule as usize).checked_sub(1)?).copied()
+}
+
+/// By rule number, from 1.
+const RULES: [(&str, &str); 23] = [
+    ("not", "P has/lacks !f: lacks/has f"),
+    ("has both", "P has (f & g): has f, then has g"),
+    ("lacks both", "P lacks (f & g): fork, lacks f or lacks g"),
+    ("name", "P has/lacks name j: is/is not j"),
+    ("has after", "P: i has <a>f; argument a fresh j: a leads from i to j, then j has f"),
+    ("lacks after", "P: i lacks <a>f; Q: a leads from i to j: j lacks f"),
+    (
+        "comparison",
+        "P: i has/lacks [x = y] or [x != y]: that comparison of (i, x) and (i, y) holds/is barred",
+    ),
+    ("exchange", "P a comparison: its two sides exchanged"),
+    ("jump", "P a comparison, left path @k x: the left side becomes (k, x)"),
+    ("held test", "P held, left path ?f x: i has f, then the comparison with x"),
+    ("barred test", "P barred, left path ?f x: fork, i lacks f or barred with x"),
+    ("held fork", "P held, left path {x | y}: fork, with x or with y"),
+    ("barred fork", "P barred, left path {x | y}: barred with x, then with y"),
+    ("held step", "P held, left path /a x; argument a fresh k: a leads from i to k, then held with (k, x)"),
+    ("barred step", "P barred, left path /a x; Q: a leads from i to k: barred with (k, x)"),
+    ("barred ends", "P barred, both paths at end: the other of = and != holds"),
+    ("turned round", "P: i is j: j is i"),
+    ("same data", "P: i is j; argument a channel: (i, .) = (j, .) on it"),
+    (
+        "replace",
+        "P: i is j; argument 0 (first or left name) or 1 (second or right): Q with i there replaced by j",
+    ),
+    ("chain", "P: (i, .) = (j, .); Q: (j, .) = or != (k, .), one channel: (i, .) and (k, .) compare as in Q"),
+    ("clash of signs", "P and Q alike but for sign: clash"),
+    ("clash of data", "P = and Q != hold, all else alike and both paths at end: clash"),
+    ("clash with itself", "P is \"i is not i\", or (i, .) != (i, .) holds: clash"),
+];
+
+/// A step: its rule and the fields that the rule uses.
+pub fn step(step: &Step) -> String {
+    let name = described(step.rule).map_or("unknown", |(name, _)| name);
+    let mut text = format!("rule {} ({name}), P {}", step.rule, step.p);
+    if uses_q(step.rule) {
+        text += &format!(", Q {}", step.q);
+    }
+    match step.rule {
+        5 | 14 => text += &format!(", fresh name n{}", step.argument),
+        18 => text += &format!(", channel c{}", step.argument),
+        19 => text += &format!(", place {}", step.argument),
+        _ => {}
+    }
+    text
+}
+
+/// The lines that a step uses, P first, as far as they are on the branch.
+pub fn used_lines(formula: &Formula, branch: &[Line], step: &Step) -> Vec<String> {
+    let q = uses_q(step.rule).then_some(step.q);
+    let numbers = [Some(step.p), q].into_iter().flatten().map(usize::from);
+    numbers.filter(|&number| number < branch.len()).map(|number| numbered(formula, branch, number)).collect()
+}

@@ -1,0 +1,48 @@
+//! What the operations of document 01 answer.
+
+use std::fmt;
+
+/// A finding of any of the three operations, or a refusal with its number and place.
+#[derive(Clone, Copy, Debug, PartialEq, Eq)]
+pub enum Finding {
+    /// Reading a pattern: the number of its entries.
+    Read {
+        entries: u16,
+    },
+    /// Judging a model: the lowest node where the root holds, and the number of such nodes.
+    Met {
+        lowest: u16,
+        number: u16,
+    },
+    /// Judging a model: the root holds nowhere.
+    Unmet,
+    /// Judging a tableau: the counts of steps, clashes and forks, and the most lines on a branch.
+    Closed {
+        steps: u16,
+        clashes: u16,
+        forks: u16,
+        most: u16,
+    },
+    Refused(Refusal),
+}
+
+#[derive(Clone, Copy, Debug, PartialEq, Eq)]
+pub struct Refusal {
+    pub number: u16,
+    pub place: u16,
+}
+
+/// The line that the bench program prints (`read` and the count for a reading, which it never prints).
+impl fmt::Display for Finding {
+    fn fmt(&self, f: &mut fmt::Formatter<'_>) -> fmt::Result {
+        match self {
+            Finding::Read { entries } => write!(f, "read {entries}"),
+            Finding::Met { lowest, number } => write!(f, "met {lowest} {number}"),
+            Finding::Unmet => write!(f, "unmet"),
+            Finding::Closed { steps, clashes, forks, most } => {
+                write!(f, "closed {steps} {clashes} {forks} {most}")
+            }
+            Finding::Refused(Refusal { number, place }) => write!(f, "refused {number} {place}"),
+        }
+    }
+}

@@ -1,0 +1,89 @@
+//! The model file: refusals 10 to 14, and writing one.
+
+use super::{Model, Node};
+use crate::bytes::{FORMAT_VERSION, u16_at};
+use crate::finding::Refusal;
+use crate::pattern::{MAX_AXIS, MAX_NAME};
+
+pub const MAX_NODES: usize = 64;
+pub const MAX_NAMES: usize = 128;
+pub const MAX_EDGES: usize = 4096;
+
+const MARK: &[u8] = b"DAT";
+pub(crate) const HEADER_BYTES: usize = 9;
+pub(crate) const NODE_BYTES: usize = 12;
+pub(crate) const NAME_BYTES: usize = 2;
+pub(crate) const EDGE_BYTES: usize = 3;
+
+/// Refusals 10 to 14, or the model.
+pub fn parse(bytes: &[u8]) -> Result<Model, Refusal> {
+    if bytes.len() < HEADER_BYTES || !bytes.starts_with(MARK) {
+        return Err(Refusal { number: 10, place: 0 });
+    }
+    if u16_at(bytes, 3) != FORMAT_VERSION {
+        return Err(Refusal { number: 11, place: 0 });
+    }
+    let (nodes, names, edges) = (bytes[5] as usize, bytes[6] as usize, u16_at(bytes, 7) as usize);
+    let in_range = (1..=MAX_NODES).contains(&nodes) && names <= MAX_NAMES && edges <= MAX_EDGES;
+    if !in_range || bytes.len() != HEADER_BYTES + NODE_BYTES * nodes + NAME_BYTES * names + EDGE_BYTES * edges
+    {
+        return Err(Refusal { number: 12, place: 0 });
+    }
+    let (node_records, rest) = bytes[HEADER_BYTES..].split_at(NODE_BYTES * nodes);
+    let (name_records, edge_records) = rest.split_at(NAME_BYTES * names);
+    Ok(Model {
+        nodes: node_records.chunks_exact(NODE_BYTES).map(parse_node).collect(),
+        names: parse_names(name_records, nodes)?,
+        edges: parse_edges(edge_records, nodes)?,
+    })
+}
+
+/// Any 12 bytes are a node: a 32-bit property set, then four 16-bit values.
+fn parse_node(record: &[u8]) -> Node {
+    let properties = u32::from_le_bytes([record[0], record[1], record[2], record[3]]);
+    Node { properties, values: [4, 6, 8, 10].map(|offset| u16_at(record, offset)) }
+}
+
+/// "13, place the name record: name or node out of range, or a name that an earlier record has."
+fn parse_names(records: &[u8], nodes: usize) -> Result<Vec<(u8, u8)>, Refusal> {
+    let mut names: Vec<(u8, u8)> = Vec::with_capacity(records.len() / NAME_BYTES);
+    for record in records.chunks_exact(NAME_BYTES) {
+        let (name, node) = (record[0], record[1]);
+        let repeated = names.iter().any(|earlier| earlier.0 == name);
+        if name > MAX_NAME || node as usize >= nodes || repeated {
+            return Err(Refusal { number: 13, place: names.len() as u16 });
+        }
+        names.push((name, node));
+    }
+    Ok(names)
+}
+
+/// "14, place the edge record: field out of range."
+fn parse_edges(records: &[u8], nodes: usize) -> Result<Vec<(u8, u8, u8)>, Refusal> {
+    let mut edges = Vec::with_capacity(records.len() / EDGE_BYTES);
+    for record in records.chunks_exact(EDGE_BYTES) {
+        let (from, axis, to) = (record[0], record[1], record[2]);
+        if from as usize >= nodes || axis > MAX_AXIS || to as usize >= nodes {
+            return Err(Refusal { number: 14, place: edges.len() as u16 });
+        }
+        edges.push((from, axis, to));
+    }
+    Ok(edges)
+}
+
+impl Model {
+    /// The model file's bytes.
+    pub fn to_bytes(&self) -> Vec<u8> {
+        let mut bytes = MARK.to_vec();
+        bytes.extend(FORMAT_VERSION.to_le_bytes());
+        bytes.extend([self.nodes.len() as u8, self.names.len() as u8]);
+        bytes.extend((self.edges.len() as u16).to_le_bytes());
+        for node in &self.nodes {
+            bytes.extend(node.properties.to_le_bytes());
+            bytes.extend(node.values.iter().flat_map(|value| value.to_le_bytes()));
+        }
+        bytes.extend(self.names.iter().flat_map(|&(name, node)| [name, node]));
+        bytes.extend(self.edges.iter().flat_map(|&(from, axis, to)| [from, axis, to]));
+        bytes
+    }
+}

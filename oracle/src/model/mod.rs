@@ -1,0 +1,67 @@
+//! Judging a model: `file` reads it, `holds` says at which nodes each entry holds, and this file gives
+//! the finding.
+
+mod file;
+mod holds;
+
+pub(crate) use file::{EDGE_BYTES, HEADER_BYTES, NAME_BYTES, NODE_BYTES};
+pub use file::{MAX_EDGES, MAX_NAMES, MAX_NODES, parse};
+pub use holds::{NodeSet, node_sets, where_holds};
+
+use crate::finding::{Finding, Refusal};
+use crate::pattern::{self, Pattern};
+
+/// The working area that judging a model wants, in bytes.
+pub const AREA: usize = 2040;
+
+/// A finite data model as a model file gives it.
+#[derive(Clone, Debug, PartialEq, Eq)]
+pub struct Model {
+    pub nodes: Vec<Node>,
+    /// Name records in file order: (name, node).
+    pub names: Vec<(u8, u8)>,
+    /// Edge records in file order: (from, axis, to).
+    pub edges: Vec<(u8, u8, u8)>,
+}
+
+#[derive(Clone, Copy, Debug, PartialEq, Eq, Default)]
+pub struct Node {
+    pub properties: u32,
+    pub values: [u16; 4],
+}
+
+/// Judging a model as document 01 states it, with what it does to the working area.
+pub fn judge(pattern: &[u8], model: &[u8], area: &mut [u8]) -> Finding {
+    match admit(pattern, model, area.len()) {
+        Ok((pattern, model)) => {
+            area[..AREA].fill(0);
+            finding(&pattern, &model)
+        }
+        Err(refusal) => Finding::Refused(refusal),
+    }
+}
+
+/// Refusals 1 to 14 in their order: the pattern, the area, the model.
+fn admit(pattern: &[u8], model: &[u8], area: usize) -> Result<(Pattern, Model), Refusal> {
+    let pattern = pattern::parse(pattern)?;
+    if area < AREA {
+        return Err(Refusal { number: 9, place: 0 });
+    }
+    Ok((pattern, parse(model)?))
+}
+
+/// Met or unmet: the lowest node where the root holds, and the number of such nodes.
+pub fn finding(pattern: &Pattern, model: &Model) -> Finding {
+    let root = *node_sets(pattern, model).last().expect("a pattern has a root");
+    if root == 0 {
+        return Finding::Unmet;
+    }
+    Finding::Met { lowest: root.trailing_zeros() as u16, number: root.count_ones() as u16 }
+}
+
+impl Model {
+    /// The node of a name: that of its record, or node 0.
+    pub fn node_of(&self, name: u8) -> usize {
+        self.names.iter().find(|record| record.0 == name).map_or(0, |record| record.1 as usize)
+    }
+}

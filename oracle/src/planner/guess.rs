@@ -1,0 +1,48 @@
+//! Tries small models at random, for patterns that the search for a tableau left undecided.
+
+use super::Effort;
+use crate::finding::Finding;
+use crate::model::{self, Model, Node};
+use crate::pattern::{Entry, MAX_AXIS, MAX_NAME, Pattern};
+use crate::random::Random;
+
+const MOST_NODES: usize = 6;
+
+/// A model that meets the pattern, among as many as the budget allows.
+pub fn guess(pattern: &Pattern, effort: Effort) -> Option<Model> {
+    let mut random = Random::new(effort.seed, 0);
+    let axes: Vec<u8> = (0..=MAX_AXIS).filter(|&axis| leads_by(pattern, axis)).collect();
+    (0..effort.budget).map(|_| any_model(pattern, &axes, &mut random)).find(|model| meets(pattern, model))
+}
+
+/// Whether judging finds the pattern met.
+pub fn meets(pattern: &Pattern, model: &Model) -> bool {
+    matches!(model::finding(pattern, model), Finding::Met { .. })
+}
+
+fn leads_by(pattern: &Pattern, axis: u8) -> bool {
+    let leads = |entry: &Entry| matches!(*entry, Entry::After(own, _) | Entry::Step(own, _) if own == axis);
+    pattern.entries.iter().any(leads)
+}
+
+/// Few nodes and few different values, so that much is the same; edges on the pattern's axes only.
+fn any_model(pattern: &Pattern, axes: &[u8], random: &mut Random) -> Model {
+    let count = 1 + random.below(MOST_NODES);
+    let mut node = || Node {
+        properties: random.number() as u32,
+        values: std::array::from_fn(|_| random.below(count) as u16),
+    };
+    let nodes: Vec<Node> = (0..count).map(|_| node()).collect();
+    let names = (0..=MAX_NAME).filter(|&name| pattern.uses(name));
+    let names = names.map(|name| (name, random.below(count) as u8)).collect();
+    let sparseness = 1 + random.below(4);
+    let mut edges = Vec::new();
+    for &axis in axes {
+        for (from, to) in (0..count * count).map(|pair| (pair / count, pair % count)) {
+            if random.once_in(sparseness) {
+                edges.push((from as u8, axis, to as u8));
+            }
+        }
+    }
+    Model { nodes, names, edges }
+}

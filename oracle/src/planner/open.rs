@@ -1,0 +1,60 @@
+//! Reads a model off a branch that has no step left to take.
+
+use super::branch::Branch;
+use super::shape::names;
+use crate::model::{MAX_EDGES, MAX_NODES, Model, Node};
+use crate::pattern::{Entry, MAX_NAME};
+use crate::tableau::line::Line;
+
+impl Branch<'_> {
+    /// The kept names as nodes, with the edges, properties and values that the lines tell. `None` if a model
+    /// file has no room for it.
+    pub fn model(&self) -> Option<Model> {
+        let mut kept: Vec<u8> = Vec::new();
+        for name in self.lines.iter().flat_map(|&line| names(line)).flatten() {
+            let name = self.aliases.kept(name);
+            if !kept.contains(&name) {
+                kept.push(name);
+            }
+        }
+        let node_of = |name: u8| kept.iter().position(|&other| other == self.aliases.kept(name));
+        let used = (0..=MAX_NAME).filter(|&name| self.setting.pattern.uses(name));
+        let model = Model {
+            nodes: kept.iter().map(|&name| self.node(name)).collect(),
+            names: used.filter_map(|name| Some((name, node_of(name)? as u8))).collect(),
+            edges: self.edges(node_of),
+        };
+        (model.nodes.len() <= MAX_NODES && model.edges.len() <= MAX_EDGES).then_some(model)
+    }
+
+    /// The properties that the kept name has, and values that it shares with just those said to be the same.
+    fn node(&self, kept: u8) -> Node {
+        let property = |line: &Line| match *line {
+            Line::Has { holds: true, name, entry } if self.aliases.kept(name) == kept => {
+                match self.setting.pattern.entries[entry] {
+                    Entry::Property(property) => Some(1 << property),
+                    _ => None,
+                }
+            }
+            _ => None,
+        };
+        Node {
+            properties: self.lines.iter().filter_map(property).fold(0, |set, bit| set | bit),
+            values: std::array::from_fn(|channel| u16::from(self.values.class(channel as u8, kept))),
+        }
+    }
+
+    /// The axis lines between nodes, each once.
+    fn edges(&self, node_of: impl Fn(u8) -> Option<usize>) -> Vec<(u8, u8, u8)> {
+        let mut edges = Vec::new();
+        for line in &self.lines {
+            if let Line::Edge { axis, from, to } = *line
+                && let (Some(from), Some(to)) = (node_of(from), node_of(to))
+                && !edges.contains(&(from as u8, axis, to as u8))
+            {
+                edges.push((from as u8, axis, to as u8));
+            }
+        }
+        edges
+    }
+}

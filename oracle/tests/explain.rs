@@ -1,0 +1,364 @@
+//! What `explain` says of the bench readings, of refusals, and of files that are large or missing.
+
+mod common;
+
+use common::*;
+use oracle::explain::explain;
+use std::fs;
+use std::path::{Path, PathBuf};
+use std::process::{Command, Output};
+
+const NOTATION: &str = "\
+Notation: pN property, nN name, !f not, (f & g) both, <aN>f after on axis N, [x = y on cN] same and
+[x != y on cN] differ on channel N; paths: /aN step, @nN jump, ?f test, {x | y} fork, . end of path;
+eN the entry of that number
+";
+
+/// What is said after the pattern and its notation.
+fn judgement(pattern: &[u8], proposal: &[u8]) -> String {
+    let text = explain(pattern, proposal);
+    let (_, judgement) = text.split_once(NOTATION).expect("the notation follows the pattern");
+    judgement.to_string()
+}
+
+/// The finding and what follows it.
+fn finding(pattern: &[u8], proposal: &[u8]) -> String {
+    let text = explain(pattern, proposal);
+    text[text.find("Finding: ").unwrap()..].to_string()
+}
+
+#[test]
+fn reading_a() {
+    let expected = format!(
+        "\
+Pattern of 4 entries, the root is e3:
+  e3 := (<a0>p0 & !<a0>p0)
+{NOTATION}
+Tableau of 3 steps, start name n0 ([N] is line N of its branch; barred: no ends compare so):
+  [0] n0 has (<a0>p0 & !<a0>p0)
+step 0: rule 2 (has both), P 0
+  [1] n0 has <a0>p0
+  [2] n0 has !<a0>p0
+step 1: rule 1 (not), P 2
+  [3] n0 lacks <a0>p0
+step 2: rule 21 (clash of signs), P 1, Q 3
+  CLASH: [1] n0 has <a0>p0 against [3] n0 lacks <a0>p0
+
+Rules used:
+  rule 1 (not): P has/lacks !f: lacks/has f
+  rule 2 (has both): P has (f & g): has f, then has g
+  rule 21 (clash of signs): P and Q alike but for sign: clash
+
+Finding: closed 3 1 0 4. Every branch ends in a clash: no model meets the pattern.
+(The counts are steps, clashes, forks, and the most lines that a branch had at its clash.)
+"
+    );
+    assert_eq!(explain(&pattern(&ENTRIES_A), &tableau(0, &STEPS_A)), expected);
+}
+
+#[test]
+fn reading_d_has_a_left_and_a_right_side() {
+    let text = judgement(&pattern(&ENTRIES_D), &tableau(0, &STEPS_D));
+    let sides = "\
+step 3: rule 3 (lacks both), P 5
+left of step 3:
+    [6] n0 lacks p0
+  step 4: rule 21 (clash of signs), P 3, Q 6
+    CLASH: [3] n0 has p0 against [6] n0 lacks p0
+right of step 3:
+    [6] n0 lacks p1
+  step 5: rule 21 (clash of signs), P 1, Q 6
+    CLASH: [1] n0 has p1 against [6] n0 lacks p1
+";
+    assert!(text.contains(sides), "{text}");
+    assert!(text.contains("\nFinding: closed 6 2 1 7. "), "{text}");
+}
+
+#[test]
+fn reading_g() {
+    let expected = "
+Model of 4 nodes, 0 names, 3 edges:
+  node 0: values 0 0 0 0; a0 to 1; a1 to 2 3
+  node 1: values 10 0 0 0
+  node 2: values 10 0 0 0
+  node 3: values 20 0 0 0
+Where the node entries hold:
+  e2 [/a0 = /a1 on c0]: node 0
+  e3 [/a0 != /a1 on c0]: node 0
+  e4 (the root) ([/a0 = /a1 on c0] & [/a0 != /a1 on c0]): node 0
+
+Finding: met 0 1. The root holds at 1 node, the lowest is node 0.
+";
+    assert_eq!(judgement(&pattern(&ENTRIES_G), &model_g()), expected);
+}
+
+#[test]
+fn a_model_with_everything() {
+    let entries = [[2, 3, 0, 0], [9, 4, 255, 0], [1, 0, 0, 0], [5, 1, 2, 0], [3, 3, 0, 0], [4, 3, 4, 0]];
+    let proposal = model(
+        &[(5, [1, 2, 3, 4]), (1 << 31, [0, 0, 0, 65535])],
+        &[[4, 1], [77, 1]],
+        &[[0, 1, 1], [1, 7, 0], [0, 1, 0], [0, 1, 1]],
+    );
+    let expected = "
+Model of 2 nodes, 2 names, 4 edges:
+  node 0: p0 p2; values 1 2 3 4; named n3 (not listed); a1 to 0 1
+  node 1: p31; values 0 0 0 65535; named n4 n77; a7 to 0
+Where the node entries hold:
+  e0 n3: node 0
+  e2 p0: node 0
+  e3 <a1>p0: node 0
+  e4 !<a1>p0: node 1
+  e5 (the root) (<a1>p0 & !<a1>p0): nowhere
+
+Finding: unmet. The root holds at no node of this model.
+";
+    assert_eq!(judgement(&pattern(&entries), &proposal), expected);
+    let unreached = "  e0 := n3   (the root doesn't reach it)\n  e1 := @n4   (the root doesn't reach it)\n";
+    assert!(explain(&pattern(&entries), &proposal).contains(unreached));
+}
+
+#[test]
+fn lines_of_every_form() {
+    let entries = [
+        [8, 2, 255, 0],
+        [9, 9, 0, 0],
+        [2, 9, 0, 0],
+        [10, 2, 1, 0],
+        [11, 3, 255, 0],
+        [7, 1, 4, 0],
+        [3, 5, 0, 0],
+        [5, 3, 2, 0],
+        [4, 6, 7, 0],
+    ];
+    let begin = [(2, 0, 0, 0), (1, 1, 0, 0), (7, 3, 0, 0), (5, 2, 0, 1)];
+    let end = [(13, 4, 0, 0), (4, 6, 0, 0), (18, 9, 0, 3), (19, 9, 5, 1)];
+    let expected = "
+  [3] n0 lacks [{?n9@n9/a2 | .} != /a2 on c1]
+step 2: rule 7 (comparison), P 3
+  [4] barred (n0, {?n9@n9/a2 | .}) != (n0, /a2) on c1
+step 3: rule 5 (has after), P 2, fresh name n1
+  [5] a3 leads from n0 to n1
+  [6] n1 has n9
+step 4: rule 13 (barred fork), P 4
+  [7] barred (n0, ?n9@n9/a2) != (n0, /a2) on c1
+  [8] barred (n0, .) != (n0, /a2) on c1
+step 5: rule 4 (name), P 6
+  [9] n1 is n9
+step 6: rule 18 (same data), P 9, channel c3
+  [10] (n1, .) = (n9, .) on c3
+step 7: rule 19 (replace), P 9, Q 5, place 1
+  [11] a3 leads from n0 to n9
+";
+    let text = judgement(&pattern(&entries), &tableau(0, &[begin, end].concat()));
+    assert!(text.contains(expected), "{text}");
+}
+
+#[test]
+fn refused_patterns() {
+    assert_eq!(
+        explain(b"PA", &[]),
+        "Finding: refused 1 0: the pattern file has under 6 bytes or doesn't begin with PAT.\n\
+         The file has 2 bytes and begins 50 41.\n"
+    );
+    assert_eq!(
+        explain(&pattern(&[]), &[]),
+        "Finding: refused 3 0: the number of entries is zero, or the pattern file's length isn't 6 + 4 for each.\n\
+         The file says 0 entries, which makes 6 bytes; it has 6.\n"
+    );
+    assert_eq!(
+        explain(&pattern(&[[1, 0, 0, 0], [5, 3, 200, 0]]), &[]),
+        "Finding: refused 6 1, entry 1: a reference isn't an earlier entry of the wanted sort.\n\
+         Entry 1 is 5,3,200,0. Kind 5 (after) uses x axis, y node entry.\n"
+    );
+    assert_eq!(
+        explain(&pattern(&[[1, 7, 0, 0], [1, 7, 0, 0]]), &[]),
+        "Finding: refused 7 1, entry 1: it equals an earlier entry.\n\
+         Entry 1 is 1,7,0,0. Kind 1 (property) uses x property. Entry 0 is the same.\n"
+    );
+}
+
+#[test]
+fn refused_models() {
+    let a = pattern(&ENTRIES_A);
+    assert_eq!(
+        finding(&a, &[]),
+        "Finding: refused 10 0: the model file has under 9 bytes or doesn't begin with DAT.\nThe file is empty.\n"
+    );
+    let mut short = model_g();
+    short.pop();
+    assert!(
+        finding(&a, &short)
+            .ends_with("\nThe file says 4 nodes, 0 names, 3 edges, which makes 66 bytes; it has 65.\n")
+    );
+    assert_eq!(
+        finding(&a, &model(&[plain(0)], &[[1, 0], [2, 0], [1, 0]], &[])),
+        "Finding: refused 13 2, name record 2: the name or the node is out of range, or an earlier record has the name.\n\
+         The record is name 1, node 0; the last name is 127, the last node 0. Name record 0 has the name.\n"
+    );
+    assert_eq!(
+        finding(&a, &model(&[plain(0)], &[[1, 0]], &[[0, 0, 0], [0, 8, 1]])),
+        "Finding: refused 14 1, edge record 1: a field is out of range.\n\
+         The record is from 0, axis 8, to 1; the last node is 0, the last axis 7.\n"
+    );
+}
+
+#[test]
+fn refused_tableau_files() {
+    let names_4 = pattern(&[[2, 4, 0, 0]]);
+    assert_eq!(
+        finding(&names_4, b"TAB"),
+        "Finding: refused 15 0: the tableau file has under 8 bytes or doesn't begin with TAB.\n\
+         The file has 3 bytes and begins 54 41 42.\n"
+    );
+    assert_eq!(
+        finding(&names_4, &tableau(4, &[(4, 0, 0, 0)])),
+        "Finding: refused 18 0: the start name is over 127 or used in the pattern.\n\
+         The start name is 4, and entry 0 has it.\n"
+    );
+}
+
+#[test]
+fn refused_steps_stand_after_the_tree_so_far() {
+    let a = pattern(&ENTRIES_A);
+    let text = judgement(&a, &tableau(0, &[(2, 0, 0, 0), (21, 1, 2, 0), (1, 2, 0, 0)]));
+    let expected = "
+  [0] n0 has (<a0>p0 & !<a0>p0)
+step 0: rule 2 (has both), P 0
+  [1] n0 has <a0>p0
+  [2] n0 has !<a0>p0
+
+Rules used:
+  rule 2 (has both): P has (f & g): has f, then has g
+
+Finding: refused 21 1, step 1: the lines or the argument don't fit the rule.
+The step is rule 21, P 1, Q 2, argument 0.
+P is [1] n0 has <a0>p0.
+Q is [2] n0 has !<a0>p0.
+Rule 21 (clash of signs) says: P and Q alike but for sign: clash.
+";
+    assert!(text.ends_with(expected), "{text}");
+    assert_eq!(
+        finding(&a, &tableau(0, &[(200, 1, 2, 3)])),
+        "Finding: refused 19 0, step 0: there is no such rule.\nThe step is rule 200, P 1, Q 2, argument 3.\n"
+    );
+    assert_eq!(
+        finding(&a, &tableau(0, &[(2, 0, 0, 0), (5, 1, 0, 0)])),
+        "Finding: refused 22 1, step 1: the name isn't fresh.\nThe step is rule 5, P 1, Q 0, argument 0.\n\
+         n0 stands on [0] n0 has (<a0>p0 & !<a0>p0).\n"
+    );
+    assert_eq!(
+        finding(&a, &tableau(0, &STEPS_A[..2])),
+        "Finding: refused 26 2: the steps are at an end and a branch is still open.\n\
+         The branch has 4 lines, numbered from 0. Right sides waiting: 0. No clash ends the branch.\n"
+    );
+}
+
+#[test]
+fn a_thousand_nested_forks_stay_readable() {
+    let entries = [[1, 0, 0, 0], [4, 0, 0, 0], [3, 1, 0, 0], [4, 0, 2, 0]];
+    let nested = [(3, 3, 0, 0), (21, 1, 4, 0)].repeat(1000);
+    let steps = [&[(2, 0, 0, 0), (1, 2, 0, 0)], &nested[..], &[(21, 1, 4, 0)]].concat();
+    let text = judgement(&pattern(&entries), &tableau(0, &steps));
+    assert!(text.contains("\nFinding: closed 2003 1001 1000 1004. "));
+    assert!(text.contains(" (depth 1000) step 2002: rule 21 (clash of signs), P 1, Q 4\n"));
+    assert!(text.lines().all(|line| line.len() < 120));
+}
+
+#[test]
+fn a_shared_formula_is_written_once() {
+    let mut entries = vec![[1, 0, 0, 0]];
+    entries.extend((0..254).map(|below| [4, below, below, 0]));
+    let text = explain(&pattern(&entries), &model_g());
+    assert!(text.contains("  e254 := (e253 & e253)\n"));
+    assert!(text.contains("  e254 (the root) (e253 & e253): nowhere\n"));
+    assert!(text.len() < 20_000);
+}
+
+#[test]
+fn a_long_formula_is_written_in_pieces() {
+    let mut entries = vec![[1, 0, 0, 0]];
+    entries.extend((0..254).map(|below| [3, below, 0, 0]));
+    let text = explain(&pattern(&entries), &model_g());
+    assert!(text.contains(&format!("\n  e29 := {}p0\n  e57 := {}e29\n", "!".repeat(29), "!".repeat(28))));
+    assert!(text.lines().all(|line| line.len() < 120));
+
+    let mut entries = vec![[8, 1, 255, 0]];
+    entries.extend((0..29).map(|below| [8, 1, below, 0]));
+    entries.push([6, 0, 29, 255]);
+    let text = explain(&pattern(&entries), &model_g());
+    let (eleven, nine) = ("/a1".repeat(11), "/a1".repeat(9));
+    assert!(text.contains(&format!("\n  e10 := {eleven}\n  e19 := {nine} e10\n")), "{text}");
+    assert!(text.contains("\n  e30 := [/a1 e28 = . on c0]\n"), "{text}");
+}
+
+/// Seeded noise (xorshift).
+fn next(state: &mut u32) -> usize {
+    *state ^= *state << 13;
+    *state ^= *state >> 17;
+    *state ^= *state << 5;
+    *state as usize
+}
+
+#[test]
+fn the_finding_explained_is_the_finding_judged() {
+    let patterns = [pattern(&ENTRIES_A), pattern(&ENTRIES_D), pattern(&ENTRIES_H)];
+    let proposals = [tableau(0, &STEPS_A), tableau(0, &STEPS_D), model_g()];
+    let mut noise = 1;
+    for round in 0..6000 {
+        let mut files = [patterns[round % 3].clone(), proposals[round / 3 % 3].clone()];
+        let damaged = &mut files[round % 2];
+        let at = next(&mut noise) % damaged.len();
+        match next(&mut noise) % 3 {
+            0 => damaged[at] = next(&mut noise) as u8,
+            1 => damaged[at] ^= 1 << (next(&mut noise) % 8),
+            _ => damaged.truncate(at),
+        }
+        let judged = if files[1].starts_with(b"TAB") { tableau_line } else { model_line };
+        let expected = format!("Finding: {}", judged(&files[0], &files[1]));
+        let said = finding(&files[0], &files[1]);
+        let rest = said.strip_prefix(&expected);
+        assert!(rest.is_some_and(|rest| rest.starts_with([',', ':', '.'])), "{expected}\n{said}\n{files:?}");
+    }
+}
+
+/// Runs the tool.
+fn run(arguments: &[&Path]) -> Output {
+    Command::new(env!("CARGO_BIN_EXE_explain")).args(arguments).output().unwrap()
+}
+
+/// A file in a directory that only these tests use.
+fn file(name: &str, bytes: &[u8]) -> PathBuf {
+    let path = Path::new(env!("CARGO_TARGET_TMPDIR")).join(name);
+    fs::write(&path, bytes).unwrap();
+    path
+}
+
+#[test]
+fn the_tool_prints_the_explanation() {
+    let (a, steps) = (pattern(&ENTRIES_A), tableau(0, &STEPS_A));
+    let output = run(&[&file("explain-a.pattern", &a), &file("explain-a.proposal", &steps)]);
+    assert!(output.status.success());
+    assert_eq!(String::from_utf8(output.stdout).unwrap(), explain(&a, &steps));
+    assert!(output.stderr.is_empty());
+}
+
+#[test]
+fn the_tool_names_a_file_that_it_cannot_read() {
+    let pattern = file("explain-alone.pattern", &pattern(&ENTRIES_A));
+    let output = run(&[&pattern, Path::new("there/is/no/such.proposal")]);
+    assert_eq!(output.status.code(), Some(1));
+    let message = String::from_utf8(output.stderr).unwrap();
+    assert!(message.starts_with("explain: there/is/no/such.proposal: No such file"), "{message}");
+    assert!(output.stdout.is_empty());
+}
+
+#[test]
+fn the_tool_refuses_wrong_arguments() {
+    let one = Path::new("one");
+    for arguments in [&[][..], &[one], &[one, one, one]] {
+        let output = run(arguments);
+        assert_eq!(output.status.code(), Some(2));
+        assert_eq!(String::from_utf8(output.stderr).unwrap(), "usage: explain pattern.bin proposal.bin\n");
+    }
+}

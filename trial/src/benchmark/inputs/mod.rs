@@ -1,0 +1,25 @@
+//! The inputs that are timed.
+
+pub mod models;
+pub mod patterns;
+mod script;
+pub mod tableaux;
+mod typical;
+
+use super::case::Case;
+
+/// The cases of reading a pattern.
+pub fn readings() -> Vec<Case> {
+    vec![
+        Case::reading("typical, 20 entries", &patterns::typical()),
+        Case::reading("large, 255 entries", &patterns::mixed(255, patterns::SEED)),
+        Case::reading("255 entries of one kind", &patterns::long_after(255)),
+    ]
+}
+
+/// The cases that go deepest into the stack.
+pub fn deepest() -> Vec<Case> {
+    let readings = readings().into_iter().skip(1);
+    let models = models::cases().into_iter().skip(2);
+    readings.chain(models).chain(tableaux::deep_cases()).collect()
+}

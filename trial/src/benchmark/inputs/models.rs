@@ -1,0 +1,81 @@
+//! Models, and the cases of judging one.
+
+use super::patterns;
+use crate::benchmark::case::Case;
+use oracle::model::{Model, Node};
+use oracle::pattern::Pattern;
+use oracle::random::Random;
+
+/// The size of a random model.
+#[derive(Clone, Copy)]
+pub struct Size {
+    pub nodes: usize,
+    pub names: usize,
+    pub edges: usize,
+    /// Edges are spread over axes 0 up to this number.
+    pub axes: usize,
+    /// Each channel has values below this number.
+    pub values: usize,
+}
+
+pub const TYPICAL: Size = Size { nodes: 16, names: 8, edges: 40, axes: 3, values: 6 };
+pub const LARGE: Size = Size { nodes: 64, names: 128, edges: 4096, axes: 8, values: 65536 };
+/// Every node leads to every node, on one axis.
+const COMPLETE: Size = Size { axes: 1, ..LARGE };
+/// Nothing differs, so that every pair is compared in vain.
+const ONE_VALUE: Size = Size { values: 1, ..COMPLETE };
+const SPARSE: Size = Size { edges: 512, ..LARGE };
+const FEW_VALUES: Size = Size { values: 4, ..LARGE };
+
+/// A model of that size at random; no edge is repeated.
+pub fn random_model(size: Size, seed: u64) -> Model {
+    let mut random = Random::new(seed, 1);
+    let node = |random: &mut Random| Node {
+        properties: random.number() as u32,
+        values: [(); 4].map(|()| random.below(size.values) as u16),
+    };
+    let nodes = (0..size.nodes).map(|_| node(&mut random)).collect();
+    let names = (0..size.names).map(|name| (name as u8, random.below(size.nodes) as u8)).collect();
+    let pairs = size.nodes * size.nodes;
+    let mut places: Vec<usize> = (0..pairs * size.axes).collect();
+    let edges = (0..size.edges.min(places.len()))
+        .map(|_| {
+            let place = places.swap_remove(random.below(places.len()));
+            let (axis, pair) = (place / pairs, place % pairs);
+            ((pair / size.nodes) as u8, axis as u8, (pair % size.nodes) as u8)
+        })
+        .collect();
+    Model { nodes, names, edges }
+}
+
+pub fn cases() -> Vec<Case> {
+    let typical = patterns::typical();
+    let mixed = patterns::mixed(255, patterns::SEED);
+    let judged =
+        |name: &str, pattern: &Pattern, size: Size| Case::model(name, pattern, &random_model(size, 1));
+    vec![
+        judged("typical", &typical, TYPICAL),
+        judged("typical, contradiction", &patterns::contradicted(patterns::typical()), TYPICAL),
+        judged("large, mixed", &mixed, LARGE),
+        judged(
+            "large, mixed, contradiction",
+            &patterns::contradicted(patterns::mixed(255, patterns::SEED)),
+            LARGE,
+        ),
+        judged("large, mixed, four values", &mixed, FEW_VALUES),
+        judged("large, mixed, 512 edges", &mixed, SPARSE),
+        judged("small pattern, large model", &typical, LARGE),
+        judged("large pattern, small model", &mixed, TYPICAL),
+        judged("both shared, 2^126 routes", &patterns::shared_nodes(255), LARGE),
+        judged("forks shared, 252 deep", &patterns::shared_forks(255), LARGE),
+        judged("254 steps, 8 axes", &patterns::long_path(255, 8), LARGE),
+        judged("254 steps, complete graph", &patterns::long_path(255, 1), COMPLETE),
+        judged("254 after", &patterns::long_after(255), LARGE),
+        judged("comparisons in tests, nested", &patterns::nested_tests(255), LARGE),
+        judged("comparisons in tests, complete", &patterns::nested_tests(255), COMPLETE),
+        judged("85 comparisons of long paths", &patterns::sweeping_comparisons(255), LARGE),
+        judged("the same, four values", &patterns::sweeping_comparisons(255), FEW_VALUES),
+        judged("64 comparisons in tests, 127 steps", &patterns::tests_before_a_long_path(255), LARGE),
+        judged("128 comparisons, 127 unreached", &patterns::unreached_comparisons(255), ONE_VALUE),
+    ]
+}

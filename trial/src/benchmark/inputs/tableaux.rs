@@ -1,0 +1,219 @@
+//! Tableaux of one pattern in many shapes, and the cases of judging one.
+
+use super::patterns::Entries;
+use super::script::Script;
+use super::typical;
+use crate::benchmark::case::Case;
+use oracle::pattern::{Comparison, Entry, Pattern};
+use oracle::tableau::Tableau;
+
+const START: u8 = 0;
+/// The first name that neither the pattern uses nor the branch begins with.
+const FRESH: u8 = 5;
+
+/// A pattern that lets its tableau have nearly any shape: p, and not both p and p, which closes every side of
+/// a fork; a comparison and an `after` to make lines from. Entries that nothing reaches fill it up to the
+/// count.
+pub fn workshop(count: usize) -> Pattern {
+    let mut entries = Entries::default();
+    for number in 0..count.saturating_sub(9) {
+        entries.add(Entry::Jump(1 + (number % 4) as u8, number.checked_sub(1)));
+    }
+    let p = entries.add(Entry::Property(0));
+    let twice = entries.add(Entry::Both(p, p));
+    let never = entries.add(Entry::Not(twice));
+    let after = entries.add(Entry::After(0, p));
+    let step = entries.add(Entry::Step(0, None));
+    let same = entries.add(Entry::Compare(Comparison::Same, 0, Some(step), None));
+    let clashing = entries.add(Entry::Both(p, never));
+    let going_on = entries.add(Entry::Both(after, same));
+    entries.add(Entry::Both(clashing, going_on));
+    entries.pattern()
+}
+
+/// A tableau of the workshop in the making; the lines that it begins with.
+pub struct Work<'a> {
+    script: Script<'a>,
+    p: usize,
+    never: usize,
+    lacks_both: usize,
+    after: usize,
+    comparison: usize,
+}
+
+impl<'a> Work<'a> {
+    fn new(pattern: &'a Pattern) -> Work<'a> {
+        let mut script = Script::new(pattern, START);
+        let parts = script.use_line(2, 0);
+        let p = script.use_line(2, parts);
+        let never = p + 1;
+        let after = script.use_line(2, parts + 1);
+        let lacks_both = script.use_line(1, never);
+        let comparison = script.use_line(7, after + 1);
+        Work { script, p, never, lacks_both, after, comparison }
+    }
+
+    fn fork(&mut self) {
+        self.script.use_line(3, self.lacks_both);
+    }
+
+    /// Ends a branch that has the line "lacks p".
+    fn clash(&mut self, lacks: usize) {
+        self.script.step(21, self.p, lacks, 0);
+    }
+
+    /// A tree of so many forks, halved between the sides; each side that doesn't fork is worked on and
+    /// clashes.
+    fn tree(&mut self, forks: usize, leaf: &impl Fn(&mut Work)) {
+        if forks == 0 {
+            let lacks = self.script.last();
+            leaf(self);
+            return self.clash(lacks);
+        }
+        self.fork();
+        let more = forks - 1;
+        self.tree(more / 2, leaf);
+        self.tree(more - more / 2, leaf);
+    }
+
+    /// Exchanges the sides of the comparison so many times.
+    fn exchange(&mut self, times: usize) {
+        let mut line = self.comparison;
+        for _ in 0..times {
+            line = self.script.use_line(8, line);
+        }
+    }
+
+    /// Brings so many new names, by rule 5 or 14.
+    fn name(&mut self, rule: u8, names: u8) {
+        let premise = if rule == 5 { self.after } else { self.comparison };
+        for name in FRESH..FRESH + names {
+            self.script.step(rule, premise, 0, name);
+        }
+    }
+}
+
+/// Steps that a tableau of the workshop has before its first fork.
+const OPENING: usize = 5;
+
+/// A tableau of at most so many steps whose leaves have as many rounds of work as fit, so many steps a round.
+fn leaves(
+    pattern: &Pattern,
+    steps: usize,
+    count: usize,
+    round: usize,
+    work: impl Fn(&mut Work, usize),
+) -> Tableau {
+    let rounds = (steps - OPENING - (2 * count - 1)) / count / round;
+    let mut making = Work::new(pattern);
+    making.tree(count - 1, &|leaf: &mut Work| work(leaf, rounds));
+    making.script.tableau()
+}
+
+/// Rule 8 nearly all the way.
+pub fn exchanges(pattern: &Pattern, steps: usize) -> Tableau {
+    leaves(pattern, steps, 2 + steps / 1000, 1, |leaf, rounds| leaf.exchange(rounds))
+}
+
+/// Rules 1 and 2 in turn.
+fn chains(pattern: &Pattern, steps: usize) -> Tableau {
+    leaves(pattern, steps, 2 + steps / 600, 2, |leaf, rounds| {
+        for _ in 0..rounds {
+            leaf.script.use_line(2, 0);
+            leaf.script.use_line(1, leaf.never);
+        }
+    })
+}
+
+/// Nothing but forks and clashes.
+pub fn forks(pattern: &Pattern, steps: usize) -> Tableau {
+    leaves(pattern, steps, (steps - OPENING).div_ceil(2), 1, |_, _| ())
+}
+
+/// A fork in the left side of a fork, so many times.
+pub fn left_nested(pattern: &Pattern, forks: usize) -> Tableau {
+    let mut work = Work::new(pattern);
+    for _ in 0..forks {
+        work.fork();
+    }
+    for _ in 0..=forks {
+        work.clash(work.script.last());
+    }
+    work.script.tableau()
+}
+
+/// A fork in the right side of a fork, so many times.
+pub fn right_nested(pattern: &Pattern, forks: usize) -> Tableau {
+    let mut work = Work::new(pattern);
+    for _ in 0..forks {
+        work.fork();
+        work.clash(work.script.last());
+    }
+    work.clash(work.script.last());
+    work.script.tableau()
+}
+
+/// Fresh names on a long branch.
+#[derive(Clone, Copy)]
+pub struct Fresh {
+    /// 5 or 14.
+    pub rule: u8,
+    /// Exchanges before the forks.
+    pub lines: usize,
+    pub leaves: usize,
+    /// New names on each leaf.
+    pub names: u8,
+}
+
+pub fn fresh(pattern: &Pattern, fresh: Fresh) -> Tableau {
+    let mut work = Work::new(pattern);
+    work.exchange(fresh.lines);
+    work.tree(fresh.leaves - 1, &|leaf: &mut Work| leaf.name(fresh.rule, fresh.names));
+    work.script.tableau()
+}
+
+const MANY_LEAVES: Fresh = Fresh { rule: 5, lines: 400, leaves: 512, names: 3 };
+
+/// The most searches for a name, on nearly the longest branches, that 4,096 steps allow.
+const LONGEST_SEARCHES: Fresh = Fresh { rule: 5, lines: 900, leaves: 60, names: 51 };
+
+/// The tableau with another last step, which doesn't fit.
+fn spoiled(mut tableau: Tableau) -> Tableau {
+    let last = tableau.steps.last_mut().expect("a tableau has a step");
+    last.q = last.p;
+    tableau
+}
+
+/// A case of a pattern and its tableau.
+fn judged(name: &str, pattern: &Pattern, tableau: impl Fn(&Pattern) -> Tableau) -> Case {
+    Case::tableau(name, pattern, &tableau(pattern))
+}
+
+pub fn cases() -> Vec<Case> {
+    let (small, large) = (&workshop(9), &workshop(255));
+    let exchanges = |pattern: &Pattern| exchanges(pattern, 4096);
+    let mut cases = vec![
+        judged("typical, 60 steps", &typical::pattern(), typical::tableau),
+        judged("exchanges", small, exchanges),
+        judged("exchanges, last step refused", small, |pattern| spoiled(exchanges(pattern))),
+        judged("exchanges, 255 entries", large, exchanges),
+        judged("rules 1 and 2", small, |pattern| chains(pattern, 4096)),
+        judged("forks and clashes", small, |pattern| forks(pattern, 4096)),
+        judged("fresh names, 400 lines", small, |pattern| fresh(pattern, MANY_LEAVES)),
+    ];
+    cases.extend(deep_cases());
+    cases
+}
+
+/// Cases with deeply nested forks or long branches.
+pub fn deep_cases() -> Vec<Case> {
+    let (small, large) = (&workshop(9), &workshop(255));
+    let fourteen = Fresh { rule: 14, ..LONGEST_SEARCHES };
+    vec![
+        judged("64 forks nested left", small, |pattern| left_nested(pattern, 64)),
+        judged("1,014 forks nested right", small, |pattern| right_nested(pattern, 1014)),
+        judged("fresh names, 900 lines", small, |pattern| fresh(pattern, LONGEST_SEARCHES)),
+        judged("fresh names, 255 entries", large, |pattern| fresh(pattern, LONGEST_SEARCHES)),
+        judged("the same by rule 14", large, |pattern| fresh(pattern, fourteen)),
+    ]
+}

@@ -1,0 +1,65 @@
+//! What a run must see: every finding, refusal, rule, limit and kind of input.
+
+use super::limits::LIMITS;
+use super::tally::Tally;
+use crate::generate::input::{Kind, Operation};
+use std::iter::Chain;
+use std::ops::RangeInclusive;
+
+impl Tally {
+    /// What a run must have seen and this one hasn't.
+    pub fn missing(&self) -> Vec<String> {
+        let mut seen = vec![
+            (self.read, "finding read".to_string()),
+            (self.met, "finding met".to_string()),
+            (self.unmet, "finding unmet".to_string()),
+            (self.closed, "finding closed".to_string()),
+            (self.unmet_as_closed, "a model judged for a pattern with a closed tableau".to_string()),
+            (self.open_as_met, "a tableau judged for a pattern with a model that meets it".to_string()),
+        ];
+        for operation in Operation::ALL {
+            seen.extend(refusals(operation).map(|number| {
+                let times = self.refused[operation as usize][number].times;
+                (times, format!("refusal {number} of {}", words(operation)))
+            }));
+        }
+        for (number, rule) in self.rules.iter().enumerate().skip(1) {
+            seen.push((rule.closed, format!("rule {number} in a closed tableau")));
+            seen.push((rule.refused[0], format!("a step with rule {number} refused 20")));
+            seen.push((rule.refused[1], format!("a step with rule {number} refused 21")));
+        }
+        for number in [5, 14] {
+            let unfresh = self.rules[number].refused[2];
+            seen.push((unfresh, format!("a step with rule {number} refused 22")));
+        }
+        for (limit, _) in LIMITS {
+            seen.push((self.shown(limit), format!("limit: {limit}")));
+        }
+        for operation in Operation::ALL {
+            for (length, times) in self.short[operation as usize].iter().enumerate() {
+                seen.push((*times, format!("a file of {length} bytes for {}", words(operation))));
+            }
+        }
+        for &kind in Kind::ALL {
+            seen.push((self.kinds[kind as usize], format!("an input of the kind: {}", kind.words())));
+        }
+        seen.into_iter().filter(|(times, _)| *times == 0).map(|(_, what)| what).collect()
+    }
+}
+
+/// The refusals that document 01 lists for the operation.
+pub fn refusals(operation: Operation) -> Chain<RangeInclusive<usize>, RangeInclusive<usize>> {
+    match operation {
+        Operation::Reading => (1..=7).chain(8..=8),
+        Operation::Model => (1..=9).chain(10..=14),
+        Operation::Tableau => (1..=9).chain(15..=26),
+    }
+}
+
+pub fn words(operation: Operation) -> &'static str {
+    match operation {
+        Operation::Reading => "reading a pattern",
+        Operation::Model => "judging a model",
+        Operation::Tableau => "judging a tableau",
+    }
+}

@@ -1,0 +1,17 @@
+//! The proved library compared with other implementations on generated inputs: finding, place, counts
+//! and every byte of the area.
+//!
+//! `run` takes the inputs in turn; `compare` runs each by every `implementation` in `guarded` memory, and
+//! `fault` names it if it is left; `tally` counts what occurred (`limits` says which limits an input
+//! shows), `missing` what never did, and `table` prints it; `report` shows one input in full.
+
+pub mod compare;
+pub mod fault;
+pub mod guarded;
+pub mod implementation;
+mod limits;
+mod missing;
+pub mod report;
+pub mod run;
+mod table;
+pub mod tally;

@@ -1,0 +1,60 @@
+//! The table that a run prints of its tally.
+
+use super::limits::LIMITS;
+use super::missing::{refusals, words};
+use super::tally::Tally;
+use crate::generate::input::{Kind, Operation};
+use std::fmt;
+
+impl fmt::Display for Tally {
+    fn fmt(&self, f: &mut fmt::Formatter<'_>) -> fmt::Result {
+        writeln!(f, "{:>12}  inputs", self.inputs)?;
+        for &kind in Kind::ALL {
+            writeln!(f, "{:>12}    {}", self.kinds[kind as usize], kind.words())?;
+        }
+        writeln!(f, "findings")?;
+        writeln!(f, "{:>12}    read", self.read)?;
+        writeln!(f, "{:>12}    met", self.met)?;
+        writeln!(f, "{:>12}    unmet", self.unmet)?;
+        writeln!(f, "{:>12}    closed, {} distinct tableaux", self.closed, self.distinct.len())?;
+        for operation in Operation::ALL {
+            self.write_refusals(f, operation)?;
+        }
+        writeln!(f, "closed tableaux that use a rule, and steps with it refused 20, 21, 22")?;
+        for (number, rule) in self.rules.iter().enumerate().skip(1) {
+            let [on, fit, fresh] = rule.refused;
+            writeln!(f, "{:>12}    {number:>2} {on:>12} {fit:>12} {fresh:>12}", rule.closed)?;
+        }
+        writeln!(f, "limits")?;
+        for (limit, _) in LIMITS {
+            writeln!(f, "{:>12}    {limit}", self.shown(limit))?;
+        }
+        writeln!(f, "files of 0 to 10 bytes")?;
+        for operation in Operation::ALL {
+            writeln!(
+                f,
+                "{:>12}    for {}",
+                self.short[operation as usize].iter().sum::<u64>(),
+                words(operation)
+            )?;
+        }
+        writeln!(f, "demand 3")?;
+        writeln!(f, "{:>12}    models of a pattern with a closed tableau: unmet", self.unmet_as_closed)?;
+        writeln!(
+            f,
+            "{:>12}    tableaux of a pattern with a model that meets it: not closed",
+            self.open_as_met
+        )
+    }
+}
+
+impl Tally {
+    fn write_refusals(&self, f: &mut fmt::Formatter<'_>, operation: Operation) -> fmt::Result {
+        writeln!(f, "refusals of {}, with the largest place", words(operation))?;
+        for number in refusals(operation) {
+            let refused = self.refused[operation as usize][number];
+            writeln!(f, "{:>12}    {number:>2} {:>12}", refused.times, refused.deepest)?;
+        }
+        Ok(())
+    }
+}

@@ -1,0 +1,150 @@
+//! What occurred in a run: findings, refusals, rules and kinds of input.
+
+use super::limits::{Judged, LIMITS};
+use crate::generate::input::{Input, Kind, Never, Operation};
+use oracle::finding::{Finding, Refusal};
+use oracle::tableau::{HEADER_BYTES, STEP_BYTES};
+use std::collections::{BTreeMap, HashSet};
+use std::hash::{DefaultHasher, Hash, Hasher};
+
+/// The largest refusal number and the largest rule number.
+const REFUSALS: usize = 26;
+const RULES: usize = 23;
+
+/// How many lengths of short files are counted: 0 to 10 bytes.
+const SHORT: usize = 11;
+
+/// How often a refusal occurred, and the largest place that it gave.
+#[derive(Clone, Copy, Debug, Default, PartialEq, Eq)]
+pub struct Refused {
+    pub times: u64,
+    pub deepest: u16,
+}
+
+/// How often a rule occurred: closed tableaux that use it, and steps with it that were refused 20, 21
+/// and 22.
+#[derive(Clone, Copy, Debug, Default, PartialEq, Eq)]
+pub struct RuleUse {
+    pub closed: u64,
+    pub refused: [u64; 3],
+}
+
+/// Counts of what occurred.
+#[derive(Clone, Debug, Default, PartialEq, Eq)]
+pub struct Tally {
+    pub inputs: u64,
+    pub kinds: [u64; Kind::ALL.len()],
+    pub read: u64,
+    pub met: u64,
+    pub unmet: u64,
+    pub closed: u64,
+    /// Refusals by operation and number.
+    pub refused: [[Refused; REFUSALS + 1]; Operation::ALL.len()],
+    pub rules: [RuleUse; RULES + 1],
+    /// Inputs that show a limit, by its words; none for a limit that no input shows.
+    pub limits: BTreeMap<&'static str, u64>,
+    /// Files of 0 to 10 bytes: patterns, models and tableaux.
+    pub short: [[u64; SHORT]; Operation::ALL.len()],
+    /// Models judged unmet of a pattern with a closed tableau.
+    pub unmet_as_closed: u64,
+    /// Tableaux refused in a step or at the end, of a pattern with a model that meets it.
+    pub open_as_met: u64,
+    /// Hashes of the closed tableaux with their patterns.
+    pub distinct: HashSet<u64>,
+}
+
+impl Tally {
+    /// Counts an input with the finding that the implementations agree on.
+    pub fn count(&mut self, input: &Input, finding: Finding) {
+        self.inputs += 1;
+        self.kinds[input.kind as usize] += 1;
+        let judged = Judged { input, finding };
+        for (limit, _) in LIMITS.iter().filter(|(_, shows)| shows(&judged)) {
+            *self.limits.entry(limit).or_default() += 1;
+        }
+        self.count_short(Operation::Reading, &input.pattern);
+        if input.operation != Operation::Reading {
+            self.count_short(input.operation, &input.proposal);
+        }
+        match finding {
+            Finding::Read { .. } => self.read += 1,
+            Finding::Met { .. } => self.met += 1,
+            Finding::Unmet => self.unmet += 1,
+            Finding::Closed { .. } => self.count_closed(input),
+            Finding::Refused(refusal) => self.count_refused(input, refusal),
+        }
+        match (input.never, finding) {
+            (Some(Never::Met), Finding::Unmet) => self.unmet_as_closed += 1,
+            (Some(Never::Closed), Finding::Refused(refusal)) if refusal.number >= 19 => self.open_as_met += 1,
+            _ => {}
+        }
+    }
+
+    /// Counts a file of the operation if it is short.
+    fn count_short(&mut self, operation: Operation, file: &[u8]) {
+        if let Some(times) = self.short[operation as usize].get_mut(file.len()) {
+            *times += 1;
+        }
+    }
+
+    fn count_refused(&mut self, input: &Input, refusal: Refusal) {
+        let refused = &mut self.refused[input.operation as usize][refusal.number as usize];
+        refused.times += 1;
+        refused.deepest = refused.deepest.max(refusal.place);
+        if let 20..=22 = refusal.number {
+            let rule = input.proposal[HEADER_BYTES + STEP_BYTES * refusal.place as usize];
+            self.rules[rule as usize].refused[refusal.number as usize - 20] += 1;
+        }
+    }
+
+    fn count_closed(&mut self, input: &Input) {
+        self.closed += 1;
+        let mut used = [false; RULES + 1];
+        for step in input.proposal[HEADER_BYTES..].chunks_exact(STEP_BYTES) {
+            used[step[0] as usize] = true;
+        }
+        for (rule, used) in self.rules.iter_mut().zip(used) {
+            rule.closed += u64::from(used);
+        }
+        let mut hasher = DefaultHasher::new();
+        (&input.pattern, &input.proposal).hash(&mut hasher);
+        self.distinct.insert(hasher.finish());
+    }
+
+    /// Adds the counts of another tally.
+    pub fn add(&mut self, other: &Tally) {
+        let pairs = self.kinds.iter_mut().zip(other.kinds);
+        let short = self.short.iter_mut().flatten().zip(other.short.into_iter().flatten());
+        let pairs = pairs.chain(short).chain([
+            (&mut self.inputs, other.inputs),
+            (&mut self.read, other.read),
+            (&mut self.met, other.met),
+            (&mut self.unmet, other.unmet),
+            (&mut self.closed, other.closed),
+            (&mut self.unmet_as_closed, other.unmet_as_closed),
+            (&mut self.open_as_met, other.open_as_met),
+        ]);
+        for (count, more) in pairs {
+            *count += more;
+        }
+        for (mine, theirs) in self.rules.iter_mut().zip(&other.rules) {
+            mine.closed += theirs.closed;
+            for (mine, theirs) in mine.refused.iter_mut().zip(theirs.refused) {
+                *mine += theirs;
+            }
+        }
+        for (mine, theirs) in self.refused.iter_mut().flatten().zip(other.refused.iter().flatten()) {
+            mine.times += theirs.times;
+            mine.deepest = mine.deepest.max(theirs.deepest);
+        }
+        for (limit, times) in &other.limits {
+            *self.limits.entry(limit).or_default() += times;
+        }
+        self.distinct.extend(&other.distinct);
+    }
+
+    /// How many inputs show the limit.
+    pub fn shown(&self, limit: &str) -> u64 {
+        self.limits.get(limit).copied().unwrap_or_default()
+    }
+}

@@ -1,0 +1,114 @@
+//! Judging a model: refusals 9 to 14, then where the root holds.
+
+use super::evaluate::{Holds, root_nodes};
+use super::{body, pattern, refused};
+use oracle::finding::Refusal;
+
+/// A data model of at most 64 nodes.
+pub struct Model<'a> {
+    /// Property set and values, as the file has them.
+    records: &'a [[u8; 12]],
+    /// The node of each name.
+    named: [u8; 128],
+    /// By axis and node, the set of nodes that the axis leads from to this node.
+    predecessors: [[u64; 64]; 8],
+}
+
+/// The set of nodes where the root holds, or refusals 1 to 14.
+pub fn judge(bytes: &[u8], model: &[u8], area: &mut [u8]) -> Result<u64, Refusal> {
+    let entries = pattern::parse(bytes)?;
+    let (holds, _) = area.as_chunks_mut::<8>();
+    let holds: &mut Holds = holds.first_chunk_mut().ok_or(refused(9))?;
+    let file = File::parse(model)?;
+    let mut model = Model { records: file.records, named: [UNLISTED; 128], predecessors: [[0; 64]; 8] };
+    model.add_names(file.names)?;
+    model.add_edges(file.edges)?;
+    let nodes = root_nodes(entries, &model, holds);
+    holds.fill([0; 8]);
+    Ok(nodes)
+}
+
+/// The records of a model file.
+struct File<'a> {
+    records: &'a [[u8; 12]],
+    names: &'a [[u8; 2]],
+    edges: &'a [[u8; 3]],
+}
+
+impl<'a> File<'a> {
+    /// Refusals 10 to 12, or the records.
+    fn parse(bytes: &'a [u8]) -> Result<File<'a>, Refusal> {
+        let (header, rest) = body::<9>(bytes, b"DAT", 10)?;
+        let &[_, _, _, _, _, n, m, low, high] = header;
+        let (nodes, names, edges) = (n as usize, m as usize, u16::from_le_bytes([low, high]) as usize);
+        let (names_at, edges_at) = (12 * nodes, 12 * nodes + 2 * names);
+        let fits = rest.len() == edges_at + 3 * edges;
+        if nodes == 0 || nodes > 64 || names > 128 || edges > 4096 || !fits {
+            return Err(refused(12));
+        }
+        let (records, _) = rest[..names_at].as_chunks();
+        let (names, _) = rest[names_at..edges_at].as_chunks();
+        let (edges, _) = rest[edges_at..].as_chunks();
+        Ok(File { records, names, edges })
+    }
+}
+
+/// In `named`, a name without a record: no node's number, and node 0 in its lowest six bits.
+const UNLISTED: u8 = 64;
+
+impl Model<'_> {
+    fn add_names(&mut self, names: &[[u8; 2]]) -> Result<(), Refusal> {
+        for (place, &[name, node]) in names.iter().enumerate() {
+            match self.named.get_mut(name as usize) {
+                Some(named) if *named == UNLISTED && (node as usize) < self.records.len() => *named = node,
+                _ => return Err(Refusal { number: 13, place: place as u16 }),
+            }
+        }
+        Ok(())
+    }
+
+    fn add_edges(&mut self, edges: &[[u8; 3]]) -> Result<(), Refusal> {
+        let nodes = self.records.len() as u8;
+        for (place, &[from, axis, to]) in edges.iter().enumerate() {
+            if from >= nodes || axis > 7 || to >= nodes {
+                return Err(Refusal { number: 14, place: place as u16 });
+            }
+            self.predecessors[axis as usize][to as usize % 64] |= 1 << (from % 64);
+        }
+        Ok(())
+    }
+
+    pub fn node_count(&self) -> usize {
+        self.records.len()
+    }
+
+    /// All nodes.
+    pub fn all(&self) -> u64 {
+        u64::MAX >> (64 - self.records.len())
+    }
+
+    /// The node of a name.
+    pub fn node(&self, name: u8) -> u32 {
+        (self.named[name as usize % 128] % 64) as u32
+    }
+
+    /// The nodes that have a property.
+    pub fn with_property(&self, property: u8) -> u64 {
+        self.records.iter().rev().fold(0, |nodes, record| {
+            let &[a, b, c, d, ..] = record;
+            nodes << 1 | (u32::from_le_bytes([a, b, c, d]) >> property & 1) as u64
+        })
+    }
+
+    /// The four values of each node, 16 bits each.
+    pub fn values(&self) -> impl Iterator<Item = u64> + '_ {
+        self.records
+            .iter()
+            .map(|&[_, _, _, _, a, b, c, d, e, f, g, h]| u64::from_le_bytes([a, b, c, d, e, f, g, h]))
+    }
+
+    /// By node, the nodes that the axis leads from to it.
+    pub fn predecessors(&self, axis: usize) -> &[u64; 64] {
+        &self.predecessors[axis % 8]
+    }
+}

@@ -1,0 +1,80 @@
+//! Models at the limits: short files, counts and records at the ends of their ranges.
+
+use super::{cut_short, misjudge_length, spoil_header};
+use oracle::random::Random;
+
+/// Writes a model file at a limit or one over.
+pub fn model(random: &mut Random, file: &mut Vec<u8>) {
+    match random.below(16) {
+        0 | 1 => {
+            counts(random, file, [1, 0, 0]);
+            cut_short(random, file);
+        }
+        2 | 3 => {
+            counts(random, file, [1, 1, 1]);
+            spoil_header(random, file);
+        }
+        4 => {
+            let edges = random.pick(&[4095, 4096, 4096, 4097]);
+            counts(random, file, [64, 128, edges]);
+            misjudge_length(random, file);
+            if random.once_in(2) {
+                border_record(random, file, [64, 128, edges]);
+            }
+        }
+        5..9 => {
+            let nodes = random.pick(&[0, 1, 63, 64, 65, 255]);
+            let names = random.pick(&[0, 1, 127, 128, 129, 255]);
+            let edges = random.pick(&[0, 1, 2, 255, 256]);
+            counts(random, file, [nodes, names, edges]);
+            misjudge_length(random, file);
+        }
+        _ => {
+            let nodes = random.pick(&[1, 2, 63, 64]);
+            let (names, edges) = (random.between(1, 5), random.between(1, 5));
+            counts(random, file, [nodes, names, edges]);
+            border_record(random, file, [nodes, names, edges]);
+        }
+    }
+}
+
+/// A file of so many nodes, names and edges, as long as they make it. Names are listed once as far as
+/// they go, from 0 up or from 127 down.
+fn counts(random: &mut Random, file: &mut Vec<u8>, [nodes, names, edges]: [usize; 3]) {
+    file.clear();
+    file.extend(b"DAT\x01\x00");
+    file.extend([nodes as u8, names as u8]);
+    file.extend((edges as u16).to_le_bytes());
+    for _ in 0..nodes {
+        file.extend((random.below(8) as u32).to_le_bytes());
+        file.extend((0..4).flat_map(|_| (random.below(3) as u16).to_le_bytes()));
+    }
+    let down = random.once_in(2);
+    let node = |random: &mut Random| random.below(nodes.max(1)) as u8;
+    for name in 0..names {
+        let name = if down { 127u8.wrapping_sub(name as u8) } else { name as u8 };
+        file.extend([name, node(random)]);
+    }
+    for _ in 0..edges {
+        let (from, axis, to) = (node(random), random.below(8) as u8, node(random));
+        file.extend([from, axis, to]);
+    }
+}
+
+/// Sets one field of one name or edge record to the end of its range or one over, or makes a name that
+/// of another record.
+fn border_record(random: &mut Random, file: &mut [u8], [nodes, names, edges]: [usize; 3]) {
+    let first_name = 9 + 12 * nodes;
+    let first_edge = first_name + 2 * names;
+    let name = first_name + 2 * random.below(names);
+    let edge = first_edge + 3 * random.below(edges);
+    let node = random.pick(&[nodes - 1, nodes, 255]) as u8;
+    match random.below(6) {
+        0 => file[name] = random.pick(&[127, 128, 255]),
+        1 => file[name + 1] = node,
+        2 => file[name] = file[first_name + 2 * random.below(names)],
+        3 => file[edge] = node,
+        4 => file[edge + 1] = random.pick(&[7, 8, 255]),
+        _ => file[edge + 2] = node,
+    }
+}

@@ -1,0 +1,45 @@
+//! Random models that judging accepts.
+
+use super::patterns::Vocabulary;
+use oracle::model::{Model, Node};
+use oracle::random::Random;
+
+/// A model of a random size: mostly of a few nodes, seldom of up to 64 with up to 4,096 edges.
+pub fn random(random: &mut Random) -> Model {
+    let (nodes, edges) = match random.below(200) {
+        0 => (random.between(32, 64), random.between(0, 4096)),
+        1..10 => (random.between(8, 64), random.between(0, 200)),
+        _ => (random.between(1, 5), random.between(0, 15)),
+    };
+    let vocabulary = Vocabulary::random(random);
+    Model {
+        nodes: (0..nodes).map(|_| node(random)).collect(),
+        names: names(random, vocabulary, nodes),
+        edges: (0..edges).map(|_| edge(random, vocabulary, nodes)).collect(),
+    }
+}
+
+/// A node whose values are often those of other nodes.
+fn node(random: &mut Random) -> Node {
+    if random.once_in(8) {
+        let values = [0; 4].map(|_| random.number() as u16);
+        return Node { properties: random.number() as u32, values };
+    }
+    Node { properties: random.below(8) as u32, values: [0; 4].map(|_| random.below(2) as u16) }
+}
+
+/// Records of different names.
+fn names(random: &mut Random, vocabulary: Vocabulary, nodes: usize) -> Vec<(u8, u8)> {
+    let mut names = Vec::new();
+    for _ in 0..random.below(6) {
+        let name = random.below(vocabulary.names) as u8;
+        if names.iter().all(|&(listed, _)| listed != name) {
+            names.push((name, random.below(nodes) as u8));
+        }
+    }
+    names
+}
+
+fn edge(random: &mut Random, vocabulary: Vocabulary, nodes: usize) -> (u8, u8, u8) {
+    (random.below(nodes) as u8, random.below(vocabulary.axes) as u8, random.below(nodes) as u8)
+}

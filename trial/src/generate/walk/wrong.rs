@@ -1,0 +1,87 @@
+//! Steps that are mostly refused, each for a reason of its own.
+
+use super::forms::{Premise, in_common, resembles};
+use super::{TRIES, Walker};
+use crate::generate::mutate::BORDERS;
+use oracle::random::Random;
+use oracle::tableau::line::Line;
+use oracle::tableau::rules::{self, Step};
+
+impl Walker<'_> {
+    /// Adds a step that mostly is refused: a fitting one with one thing made wrong, or lines that almost
+    /// fit a rule.
+    pub fn add_wrong(&mut self, random: &mut Random) {
+        let mut step = self.fitting(random).unwrap_or(Step { rule: 1, p: 0, q: 0, argument: 0 });
+        let lines = self.walk.branch().len();
+        match random.below(16) {
+            0 => step.rule = random.pick(&[0, 24, 25, 32, 33, 255]),
+            1 => step.p = random.pick(&[lines, lines + 1, 1023, 1024, 65535, lines | 256]) as u16,
+            2 => step.q = random.pick(&[1, lines - 1, lines, 1024, 65535, 256]) as u16,
+            3 | 9 => step = self.border_argument(random).unwrap_or(step),
+            4 | 5 => step = self.stale(random).unwrap_or(step),
+            6 => step.rule = random.between(1, 23) as u8,
+            7 => step.p = random.below(lines) as u16,
+            8 => {
+                step = self.clash(random).unwrap_or(step);
+                std::mem::swap(&mut step.p, &mut step.q);
+            }
+            _ => step = self.almost(random).unwrap_or(step),
+        }
+        self.tableau.steps.push(step);
+    }
+
+    /// A step with lines of about the forms that its rule wants: of a few pairs, the one whose lines
+    /// have the most in common.
+    fn almost(&self, random: &mut Random) -> Option<Step> {
+        let rule = random.pick(&[6, 6, 15, 15, 16, 17, 18, 19, 20, 20, 21, 22, 22, 23]);
+        let argument = if rule == 19 { random.below(2) as u8 } else { 0 };
+        let pairs = (0..TRIES).filter_map(|_| {
+            let p = self.line_of(random, |line| resembles(self.pattern, rule, Premise::P, line))?;
+            let q = self.line_of(random, |line| resembles(self.pattern, rule, Premise::Q, line))?;
+            Some(Step { rule, p, q, argument })
+        });
+        let line = |number: u16| &self.walk.branch()[number as usize];
+        let best =
+            pairs.filter(|step| step.p != step.q).max_by_key(|step| in_common(line(step.p), line(step.q)));
+        best.map(|step| if rules::uses_q(rule) { step } else { Step { q: 0, ..step } })
+    }
+
+    /// The number of a random line of the branch that is wanted.
+    fn line_of(&self, random: &mut Random, wanted: impl Fn(&Line) -> bool) -> Option<u16> {
+        let branch = self.walk.branch();
+        (0..2 * TRIES)
+            .map(|_| random.below(branch.len()))
+            .find(|&line| wanted(&branch[line]))
+            .map(|line| line as u16)
+    }
+
+    /// A step whose argument is at the end of its range or over it: a name, a channel or a place.
+    fn border_argument(&self, random: &mut Random) -> Option<Step> {
+        let (wanted, arguments): (fn(u8) -> bool, _) = match random.below(3) {
+            0 => (|rule| matches!(rule, 5 | 14), [127, 128, 255]),
+            1 => (|rule| rule == 18, [3, 4, 255]),
+            _ => (|rule| rule == 19, [1, 2, 255]),
+        };
+        let step = self.guess_of(random, wanted)?;
+        Some(Step { argument: random.pick(&arguments), ..step })
+    }
+
+    /// A step of rule 5 or 14 that fits but for its name, which the branch has or the pattern uses.
+    fn stale(&self, random: &mut Random) -> Option<Step> {
+        let step = self.guess_of(random, |rule| matches!(rule, 5 | 14))?;
+        let (line, used) = (self.walk.branch()[self.line(random)], random.once_in(4));
+        let stale = |&name: &u8| if used { self.pattern.uses(name) } else { line.has_name(name) };
+        (0..128).find(stale).map(|argument| Step { argument, ..step })
+    }
+
+    /// A guess with a rule that is wanted.
+    fn guess_of(&self, random: &mut Random, wanted: fn(u8) -> bool) -> Option<Step> {
+        (0..4 * TRIES).find_map(|_| self.guess(random).filter(|step| wanted(step.rule)))
+    }
+
+    /// Adds a step of random bytes, which hardly ever fits.
+    pub fn add_random(&mut self, random: &mut Random) {
+        let (rule, p, q) = (random.below(25) as u8, random.below(40) as u16, random.below(40) as u16);
+        self.tableau.steps.push(Step { rule, p, q, argument: random.pick(&BORDERS) });
+    }
+}

@@ -1,0 +1,285 @@
+//! The differential run itself tested: it sees faults that are planted, repeats itself, and fails when
+//! something never occurs.
+
+mod faults;
+
+use faults::model::{MISREADINGS, misread};
+use faults::tableau::{self, Fault, NONE};
+use oracle::finding::Finding;
+use trial::differential::compare::{Comparer, What};
+use trial::differential::guarded::Against;
+use trial::differential::implementation::{Implementation, Lent, ORACLE, UNIT, run_oracle};
+use trial::differential::run::{Failure, Run};
+use trial::differential::tally::Tally;
+use trial::generate::input::{Input, Kind, Operation};
+use trial::generate::{BLOCK, Generator};
+
+/// Enough inputs for every planted fault to be seen.
+const RUN: Run = Run { seed: 1, count: 40 * BLOCK, threads: 2 };
+/// Enough inputs for everything to occur.
+const COMPLETE: Run = Run { count: 80 * BLOCK, ..RUN };
+
+/// Runs an implementation with a planted fault against the independent one.
+fn planted(fault: &(dyn Fn(Operation, Lent) -> Finding + Sync)) -> Result<Tally, Box<Failure>> {
+    RUN.go(&[ORACLE, Implementation { name: "planted", run: fault }])
+}
+
+/// What is seen of the fault.
+fn seen(fault: &(dyn Fn(Operation, Lent) -> Finding + Sync)) -> What {
+    let Err(failure) = planted(fault) else { panic!("the fault isn't seen") };
+    assert_eq!(failure.difference.implementation, "planted");
+    failure.difference.what
+}
+
+/// Asserts that a fault in judging the steps of a tableau is seen as another finding.
+fn is_seen(fault: Fault) {
+    let what = seen(&|operation, lent| fault.run(operation, lent));
+    assert!(matches!(what, What::Finding { .. }), "{what:?}");
+}
+
+fn tally(run: Run) -> Tally {
+    run.go(&[ORACLE, UNIT])
+        .unwrap_or_else(|failure| panic!("input {}: {}", failure.number, failure.difference))
+}
+
+#[test]
+fn the_number_of_threads_changes_nothing() {
+    let run = Run { count: 4 * BLOCK + 7, ..RUN };
+    assert_eq!(tally(Run { threads: 1, ..run }), tally(Run { threads: 3, ..run }));
+}
+
+#[test]
+fn an_input_is_a_function_of_seed_and_number() {
+    let (mut in_order, mut alone) = (Input::blank(), Input::blank());
+    let mut generator = Generator::new(9);
+    for number in 0..2 * BLOCK {
+        generator.make(number, &mut in_order);
+        if number % 97 == 0 {
+            Generator::new(9).make(number, &mut alone);
+            assert_eq!(in_order, alone, "input {number}");
+        }
+    }
+    Generator::new(10).make(97, &mut in_order);
+    Generator::new(9).make(97, &mut alone);
+    assert_ne!(in_order, alone);
+}
+
+#[test]
+fn areas_are_filled_with_bytes_that_are_not_zero_and_differ_from_their_neighbours() {
+    let mut input = Input::blank();
+    let mut generator = Generator::new(1);
+    for number in 0..BLOCK {
+        generator.make(number, &mut input);
+        let contents = input.area.contents();
+        assert_eq!(contents.len(), input.area.length);
+        assert!(contents.iter().all(|&byte| byte != 0));
+        assert!(contents.windows(2).all(|pair| pair[0] != pair[1]));
+    }
+}
+
+#[test]
+fn everything_occurs_and_what_never_does_is_named() {
+    let complete = tally(COMPLETE);
+    let missing = |change: fn(&mut Tally)| {
+        let mut tally = complete.clone();
+        change(&mut tally);
+        tally.missing()
+    };
+    assert_eq!(missing(|_| {}), [""; 0]);
+    assert_eq!(missing(|tally| tally.met = 0), ["finding met"]);
+    assert_eq!(missing(|tally| tally.refused[0][8].times = 0), ["refusal 8 of reading a pattern"]);
+    assert_eq!(missing(|tally| tally.refused[1][14].times = 0), ["refusal 14 of judging a model"]);
+    assert_eq!(missing(|tally| tally.refused[2][24].times = 0), ["refusal 24 of judging a tableau"]);
+    assert_eq!(missing(|tally| tally.rules[20].closed = 0), ["rule 20 in a closed tableau"]);
+    assert_eq!(missing(|tally| tally.rules[3].refused[1] = 0), ["a step with rule 3 refused 21"]);
+    assert_eq!(missing(|tally| tally.rules[14].refused[2] = 0), ["a step with rule 14 refused 22"]);
+    assert_eq!(missing(|tally| tally.short[1][9] = 0), ["a file of 9 bytes for judging a model"]);
+    assert_eq!(
+        missing(|tally| tally.limits.retain(|limit, _| *limit != "64 nodes judged")),
+        ["limit: 64 nodes judged"]
+    );
+    assert_eq!(missing(|tally| tally.kinds[Kind::Unrelated as usize] = 0).len(), 1);
+    assert!(Tally::default().missing().len() > 100);
+}
+
+#[test]
+fn a_judge_that_says_unmet_for_every_model_is_seen() {
+    let what = seen(&|operation, lent| match run_oracle(operation, lent) {
+        Finding::Met { .. } => Finding::Unmet,
+        finding => finding,
+    });
+    assert!(matches!(what, What::Finding { found: Finding::Unmet, .. }));
+}
+
+#[test]
+fn a_judge_that_counts_one_node_too_many_is_seen() {
+    let what = seen(&|operation, lent| match run_oracle(operation, lent) {
+        Finding::Met { lowest, number } => Finding::Met { lowest, number: number + 1 },
+        finding => finding,
+    });
+    assert!(matches!(what, What::Finding { .. }));
+}
+
+#[test]
+fn a_panic_is_seen() {
+    let what = seen(&|operation, lent| match run_oracle(operation, lent) {
+        Finding::Closed { .. } => panic!("planted"),
+        finding => finding,
+    });
+    assert_eq!(what, What::Panic);
+}
+
+#[test]
+fn an_area_that_is_not_cleared_is_seen() {
+    let what = seen(&|operation, lent| {
+        let mut copy = lent.area.to_vec();
+        run_oracle(operation, Lent { area: &mut copy, ..lent })
+    });
+    assert!(matches!(what, What::Area { at: 0, expected: 0, before, found } if before == found));
+}
+
+/// The oracle, which then writes the byte to the area if it is that long and wasn't left unchanged.
+fn and_writes(operation: Operation, lent: Lent, (at, byte): (usize, u8)) -> Finding {
+    let before = lent.area.first().copied();
+    let Lent { pattern, proposal, area } = lent;
+    let finding = run_oracle(operation, Lent { pattern, proposal, area: &mut *area });
+    if area.first().copied() != before && at < area.len() {
+        area[at] = byte;
+    }
+    finding
+}
+
+#[test]
+fn one_byte_cleared_too_few_or_too_many_is_seen() {
+    let last_of_model = seen(&|operation, lent| match operation {
+        Operation::Model => and_writes(operation, lent, (2039, 7)),
+        _ => run_oracle(operation, lent),
+    });
+    assert!(matches!(last_of_model, What::Area { at: 2039, expected: 0, found: 7, .. }));
+    let one_over = seen(&|operation, lent| match operation {
+        Operation::Tableau => and_writes(operation, lent, (8192, 0)),
+        _ => run_oracle(operation, lent),
+    });
+    assert!(matches!(one_over, What::Area { at: 8192, found: 0, .. }));
+}
+
+#[test]
+fn a_changed_pattern_or_proposal_is_seen() {
+    let pattern = seen(&|operation, Lent { pattern, proposal, area }| {
+        let finding = run_oracle(operation, Lent { pattern: &mut *pattern, proposal, area });
+        pattern.iter_mut().for_each(|byte| *byte ^= 1);
+        finding
+    });
+    assert_eq!(pattern, What::Pattern);
+    let proposal = seen(&|operation, Lent { pattern, proposal, area }| {
+        let finding = run_oracle(operation, Lent { pattern, proposal: &mut *proposal, area });
+        proposal.reverse();
+        finding
+    });
+    assert_eq!(proposal, What::Proposal);
+}
+
+#[test]
+fn a_finding_against_demand_3_is_seen_without_any_other_implementation() {
+    let says_met = Implementation {
+        name: "planted",
+        run: &|operation, lent| match run_oracle(operation, lent) {
+            Finding::Unmet => Finding::Met { lowest: 0, number: 1 },
+            finding => finding,
+        },
+    };
+    let Err(failure) = RUN.go(&[says_met]) else { panic!("the fault isn't seen") };
+    assert_eq!(failure.difference.what, What::Demand { found: Finding::Met { lowest: 0, number: 1 } });
+    assert_eq!(failure.input.kind, Kind::ModelOfClosed);
+}
+
+#[test]
+fn misreadings_of_a_model_are_seen() {
+    for (words, change) in MISREADINGS {
+        let found = planted(&|operation, lent| misread(change, operation, lent));
+        let Err(failure) = found else { panic!("not seen: {words}") };
+        let what = failure.difference.what;
+        assert!(matches!(what, What::Finding { .. }), "{words}: {what:?}");
+    }
+}
+
+#[test]
+fn the_planted_judge_is_right_without_a_fault() {
+    assert!(planted(&|operation, lent| NONE.run(operation, lent)).is_ok());
+}
+
+#[test]
+fn rule_16_while_paths_remain_is_seen() {
+    is_seen(Fault { accepts: tableau::rule_16_while_paths_remain, ..NONE });
+}
+
+#[test]
+fn rule_22_while_paths_remain_is_seen() {
+    is_seen(Fault { accepts: tableau::rule_22_while_paths_remain, ..NONE });
+}
+
+#[test]
+fn rule_11_with_one_side_only_is_seen() {
+    is_seen(Fault { alters: tableau::one_side_of_rule_11, ..NONE });
+}
+
+#[test]
+fn a_right_side_with_left_lines_is_seen() {
+    is_seen(Fault { keeps_left_lines: true, ..NONE });
+}
+
+#[test]
+fn a_name_of_the_branch_taken_as_fresh_in_rule_5_is_seen() {
+    is_seen(Fault { accepts: tableau::stale_name::<5>, ..NONE });
+}
+
+#[test]
+fn a_name_of_the_branch_taken_as_fresh_in_rule_14_is_seen() {
+    is_seen(Fault { accepts: tableau::stale_name::<14>, ..NONE });
+}
+
+#[test]
+fn two_differs_chained_are_seen() {
+    is_seen(Fault { accepts: tableau::two_differs, ..NONE });
+}
+
+#[test]
+fn an_axis_ignored_in_rule_6_is_seen() {
+    is_seen(Fault { accepts: tableau::any_axis::<6>, ..NONE });
+}
+
+#[test]
+fn an_axis_ignored_in_rule_15_is_seen() {
+    is_seen(Fault { accepts: tableau::any_axis::<15>, ..NONE });
+}
+
+#[test]
+fn closing_after_the_first_clash_is_seen() {
+    is_seen(Fault { closes_at_once: true, ..NONE });
+}
+
+#[test]
+fn a_clash_of_a_line_with_itself_is_seen() {
+    is_seen(Fault { accepts: tableau::alike_with_sign, ..NONE });
+}
+
+#[test]
+fn rule_22_with_its_lines_exchanged_is_seen() {
+    is_seen(Fault { accepts: tableau::exchanged, ..NONE });
+}
+
+#[test]
+fn rule_19_for_another_name_is_seen() {
+    is_seen(Fault { accepts: tableau::other_name, ..NONE });
+}
+
+#[test]
+fn an_input_may_be_put_against_either_end() {
+    let mut input = Input::blank();
+    Generator::new(1).make(1, &mut input);
+    let mut comparer = Comparer::new();
+    let found =
+        [Against::Beginning, Against::End].map(|against| comparer.compare(&input, against, &[ORACLE, UNIT]));
+    assert!(found[0].is_ok());
+    assert_eq!(found[0], found[1]);
+}

@@ -1,0 +1,134 @@
+//! The fast implementation against the independent one, on inputs of the benchmark, many of them mutated.
+
+use oracle::random::Random;
+use trial::benchmark::case::{Case, Proposal};
+use trial::benchmark::inputs::models::{Size, random_model};
+use trial::benchmark::inputs::tableaux::{self, Fresh, workshop};
+use trial::benchmark::inputs::{patterns, readings};
+use trial::benchmark::judge::{FAST, ORACLE};
+
+/// Both give the same finding and leave the same area, of this length.
+fn agree(case: &Case, length: usize) {
+    let [fast, oracle] = [FAST, ORACLE].map(|judge| {
+        let mut area = vec![0xa5; length];
+        let finding = (judge.finding)(case, &mut area);
+        (finding, area)
+    });
+    assert_eq!(fast.0, oracle.0, "{}: pattern {:?}", case.name, case.pattern);
+    assert!(fast.1 == oracle.1, "{}: areas differ after {}", case.name, fast.0);
+}
+
+/// A mixed pattern and a small model, different ones for each seed.
+fn mixed_case(seed: u64) -> Case {
+    let mut random = Random::new(seed, 2);
+    let size = Size {
+        nodes: random.between(1, 64),
+        names: random.below(129),
+        edges: random.below(300),
+        axes: random.between(1, 8),
+        values: random.between(1, 5),
+    };
+    let pattern = patterns::mixed(random.between(8, 80), seed);
+    Case::model("mixed", &pattern, &random_model(size, seed))
+}
+
+#[test]
+fn mixed_models() {
+    for seed in 0..1500 {
+        agree(&mixed_case(seed), 2040);
+    }
+}
+
+#[test]
+fn models_of_every_shape_of_pattern() {
+    let shapes = [
+        patterns::typical(),
+        patterns::shared_nodes(40),
+        patterns::shared_forks(40),
+        patterns::long_path(20, 3),
+        patterns::long_after(20),
+        patterns::nested_tests(40),
+        patterns::sweeping_comparisons(40),
+    ];
+    for seed in 0..40 {
+        let size = Size { nodes: 20, names: 8, edges: 60, axes: 3, values: 1 + seed as usize % 6 };
+        for pattern in &shapes {
+            agree(&Case::model("shape", pattern, &random_model(size, seed)), 2041);
+        }
+    }
+}
+
+/// The bytes with up to three changes: a bit, a byte, two exchanged, or the end cut off.
+fn mutate(bytes: &mut Vec<u8>, random: &mut Random) {
+    for _ in 0..random.between(1, 3) {
+        if bytes.is_empty() {
+            return;
+        }
+        let place = random.below(bytes.len());
+        match random.below(16) {
+            0 => bytes.truncate(place),
+            1 => bytes.push(random.byte()),
+            2..=6 => bytes[place] ^= 1 << random.below(8),
+            7..=11 => bytes[place] = random.byte() % 32,
+            _ => {
+                let other = random.below(bytes.len());
+                bytes.swap(place, other);
+            }
+        }
+    }
+}
+
+/// Judges a case with changed bytes, so many times.
+fn agree_mutated(case: &Case, times: u64) {
+    let mut random = Random::new(3, case.pattern.len() as u64);
+    for _ in 0..times {
+        let mut pattern = case.pattern.clone();
+        if random.once_in(4) {
+            mutate(&mut pattern, &mut random);
+        }
+        let mut changed = |bytes: &[u8]| {
+            let mut bytes = bytes.to_vec();
+            mutate(&mut bytes, &mut random);
+            bytes
+        };
+        let proposal = match &case.proposal {
+            Proposal::None => Proposal::None,
+            Proposal::Model(model) => Proposal::Model(changed(model)),
+            Proposal::Tableau(tableau) => Proposal::Tableau(changed(tableau)),
+        };
+        let length = random.pick(&[8192, 8192, 8200, 8191, 2040, 2039, 0]);
+        agree(&Case { name: case.name.clone(), pattern, proposal }, length);
+    }
+}
+
+#[test]
+fn mutated_readings() {
+    for case in &readings() {
+        agree_mutated(case, 300);
+    }
+}
+
+#[test]
+fn mutated_models() {
+    for seed in 0..60 {
+        agree_mutated(&mixed_case(seed), 30);
+    }
+}
+
+#[test]
+fn mutated_tableaux() {
+    let pattern = workshop(40);
+    let fresh = Fresh { rule: 5, lines: 10, leaves: 5, names: 4 };
+    let shapes = [
+        tableaux::exchanges(&pattern, 100),
+        tableaux::forks(&pattern, 100),
+        tableaux::left_nested(&pattern, 64),
+        tableaux::right_nested(&pattern, 30),
+        tableaux::fresh(&pattern, fresh),
+        tableaux::fresh(&pattern, Fresh { rule: 14, ..fresh }),
+    ];
+    for tableau in shapes {
+        agree_mutated(&Case::tableau("workshop", &pattern, &tableau), 500);
+    }
+    agree_mutated(&tableaux::cases()[0], 4000);
+}

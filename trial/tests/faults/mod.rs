@@ -1,0 +1,4 @@
+//! Judges with a fault planted in them.
+
+pub mod model;
+pub mod tableau;

@@ -1,0 +1,119 @@
+//! The proved library, safe to call from Rust: any bytes of any length are accepted.
+//!
+//! ```
+//! let pattern = b"PAT\x01\x00\x01\x01\x00\x00\x00"; // one entry: property 0
+//! let model = b"DAT\x01\x00\x01\x00\x00\x00\x01\x00\x00\x00\x00\x00\x00\x00\x00\x00\x00\x00"; // one node that has it
+//! let mut area = [0; unit::MODEL_AREA];
+//! let finding = unit::judge_model(pattern, model, &mut area);
+//! assert_eq!(finding, unit::Finding::Met { lowest: 0, number: 1 });
+//! ```
+
+use std::fmt;
+
+/// The bytes of working area that are enough for judging a model.
+pub const MODEL_AREA: usize = 2040;
+
+/// The bytes of working area that are enough for judging a tableau.
+pub const TABLEAU_AREA: usize = 8192;
+
+/// A finding of any of the three operations, or a refusal with its number and place.
+#[derive(Clone, Copy, Debug, PartialEq, Eq)]
+pub enum Finding {
+    /// Reading a pattern: the number of its entries.
+    Read { entries: u16 },
+    /// Judging a model: the lowest node where the root holds, and the number of such nodes.
+    Met { lowest: u16, number: u16 },
+    /// Judging a model: the root holds nowhere.
+    Unmet,
+    /// Judging a tableau: the counts of steps, clashes and forks, and the most lines on a branch.
+    Closed { steps: u16, clashes: u16, forks: u16, most: u16 },
+    /// Refused: the number and the place.
+    Refused { number: u16, place: u16 },
+}
+
+mod linked {
+    unsafe extern "C" {
+        pub fn riser_read(pattern: *const u8, pattern_length: usize) -> u64;
+        pub fn riser_judge_model(
+            pattern: *const u8,
+            pattern_length: usize,
+            model: *const u8,
+            model_length: usize,
+            area: *mut u8,
+            area_length: usize,
+        ) -> u64;
+        pub fn riser_judge_tableau(
+            pattern: *const u8,
+            pattern_length: usize,
+            tableau: *const u8,
+            tableau_length: usize,
+            area: *mut u8,
+            area_length: usize,
+        ) -> u64;
+    }
+}
+
+/// Reads a pattern.
+pub fn read(pattern: &[u8]) -> Finding {
+    // SAFETY: the slice is readable for its length, which is all that the function wants.
+    unpacked(unsafe { linked::riser_read(pattern.as_ptr(), pattern.len()) })
+}
+
+/// Judges a model of a pattern; `MODEL_AREA` bytes of area are enough.
+pub fn judge_model(pattern: &[u8], model: &[u8], area: &mut [u8]) -> Finding {
+    // SAFETY: the slices are readable, and the area writable, for their lengths; the area is borrowed
+    // for writing and so overlaps neither of the others.
+    unpacked(unsafe {
+        linked::riser_judge_model(
+            pattern.as_ptr(),
+            pattern.len(),
+            model.as_ptr(),
+            model.len(),
+            area.as_mut_ptr(),
+            area.len(),
+        )
+    })
+}
+
+/// Judges a tableau for a pattern; `TABLEAU_AREA` bytes of area are enough. It takes up to 361 KB of stack.
+pub fn judge_tableau(pattern: &[u8], tableau: &[u8], area: &mut [u8]) -> Finding {
+    // SAFETY: as in `judge_model`.
+    unpacked(unsafe {
+        linked::riser_judge_tableau(
+            pattern.as_ptr(),
+            pattern.len(),
+            tableau.as_ptr(),
+            tableau.len(),
+            area.as_mut_ptr(),
+            area.len(),
+        )
+    })
+}
+
+/// A packed answer: its kind in the lowest 4 bits, and above it four numbers of 14 bits, the first lowest.
+fn unpacked(answer: u64) -> Finding {
+    let part = |k: u32| (answer >> (4 + 14 * k) & 0x3fff) as u16;
+    match answer & 15 {
+        1 => Finding::Refused { number: part(0), place: part(1) },
+        2 => Finding::Read { entries: part(0) },
+        3 => Finding::Met { lowest: part(0), number: part(1) },
+        4 => Finding::Unmet,
+        5 => Finding::Closed { steps: part(0), clashes: part(1), forks: part(2), most: part(3) },
+        kind => unreachable!("the library gives no answer of kind {kind}"),
+    }
+}
+
+/// The line that the bench program prints (`read` and the count for a reading, which it never prints).
+impl fmt::Display for Finding {
+    fn fmt(&self, f: &mut fmt::Formatter<'_>) -> fmt::Result {
+        match self {
+            Finding::Read { entries } => write!(f, "read {entries}"),
+            Finding::Met { lowest, number } => write!(f, "met {lowest} {number}"),
+            Finding::Unmet => write!(f, "unmet"),
+            Finding::Closed { steps, clashes, forks, most } => {
+                write!(f, "closed {steps} {clashes} {forks} {most}")
+            }
+            Finding::Refused { number, place } => write!(f, "refused {number} {place}"),
+        }
+    }
+}

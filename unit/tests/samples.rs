@@ -1,0 +1,51 @@
+//! The wrapper on the sample files: each line is the one that `crates/readings/stdout` has.
+
+use std::fs;
+use std::path::Path;
+
+use unit::{Finding, MODEL_AREA, TABLEAU_AREA};
+
+/// The finding that the bench program prints for two files; a file that can't be opened counts as empty.
+fn judged(folder: &Path) -> Finding {
+    let pattern = fs::read(folder.join("pattern.bin")).unwrap_or_default();
+    let proposal = fs::read(folder.join("proposal.bin")).unwrap_or_default();
+    if proposal.starts_with(b"TAB") {
+        unit::judge_tableau(&pattern, &proposal, &mut [0; TABLEAU_AREA])
+    } else {
+        unit::judge_model(&pattern, &proposal, &mut [0; MODEL_AREA])
+    }
+}
+
+#[test]
+fn every_sample_is_judged_as_listed() {
+    let readings = Path::new(env!("CARGO_MANIFEST_DIR")).join("../crates/readings");
+    let listed = fs::read_to_string(readings.join("stdout")).expect("crates/readings/stdout");
+    for line in listed.lines() {
+        let (name, finding) = line.split_once(": ").expect("name: finding");
+        assert_eq!(judged(&readings.join("data").join(name)).to_string(), finding, "{name}");
+    }
+    assert!(listed.lines().count() > 100);
+}
+
+#[test]
+fn a_pattern_is_read() {
+    assert_eq!(unit::read(b"PAT\x01\x00\x01\x01\x1f\x00\x00"), Finding::Read { entries: 1 });
+    assert_eq!(unit::read(b"PAT\x01\x00\x01\x02\x80\x00\x00"), Finding::Refused { number: 5, place: 0 });
+    assert_eq!(unit::read(b""), Finding::Refused { number: 1, place: 0 });
+}
+
+#[test]
+fn a_short_area_is_refused_and_kept() {
+    let reading_h = Path::new(env!("CARGO_MANIFEST_DIR")).join("../crates/readings/data/reading_h");
+    let pattern = fs::read(reading_h.join("pattern.bin")).expect("pattern.bin");
+    let model = fs::read(reading_h.join("proposal.bin")).expect("proposal.bin");
+    let mut area = [7; MODEL_AREA + 1];
+    assert_eq!(
+        unit::judge_model(&pattern, &model, &mut area[..MODEL_AREA - 1]),
+        Finding::Refused { number: 9, place: 0 }
+    );
+    assert_eq!(area, [7; MODEL_AREA + 1]);
+    assert_eq!(unit::judge_model(&pattern, &model, &mut area), Finding::Met { lowest: 0, number: 1 });
+    assert_eq!(area[..MODEL_AREA], [0; MODEL_AREA]);
+    assert_eq!(area[MODEL_AREA], 7);
+}
