@@ -56,11 +56,17 @@ pub fn finding(pattern: &Pattern, tableau: &Tableau) -> Finding {
     if walk.is_open() {
         return Finding::Refused(Refusal { number: 26, place: tableau.steps.len() as u16 });
     }
-    let count = |says: fn(u8) -> bool| tableau.steps.iter().filter(|step| says(step.rule)).count() as u16;
+    closed(&tableau.steps, walk.most_lines())
+}
+
+/// Closed by these steps, with the most lines that a branch had at its clash: "clashes is the number of
+/// steps whose rule says clash, forks of those whose rule forks the branch in two".
+pub fn closed(steps: &[Step], most: usize) -> Finding {
+    let count = |says: fn(u8) -> bool| steps.iter().filter(|step| says(step.rule)).count() as u16;
     Finding::Closed {
-        steps: tableau.steps.len() as u16,
+        steps: steps.len() as u16,
         clashes: count(rules::says_clash),
         forks: count(rules::says_fork),
-        most: walk.most_lines() as u16,
+        most: most as u16,
     }
 }

@@ -68,13 +68,7 @@ impl Fault {
         if stand.open {
             return Finding::Refused(Refusal { number: 26, place: tableau.steps.len() as u16 });
         }
-        let count = |says: fn(u8) -> bool| tableau.steps.iter().filter(|step| says(step.rule)).count() as u16;
-        Finding::Closed {
-            steps: tableau.steps.len() as u16,
-            clashes: count(rules::says_clash),
-            forks: count(rules::says_fork),
-            most: stand.most as u16,
-        }
+        tableau::closed(&tableau.steps, stand.most)
     }
 
     fn take(self, pattern: &Pattern, stand: &mut Stand, step: &Step) -> Result<(), u16> {
