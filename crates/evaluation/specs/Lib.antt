@@ -1,5 +1,3 @@
-pub mod Decision
-pub mod Judged
 pub mod Kinds
 pub mod Tables
 pub mod Members

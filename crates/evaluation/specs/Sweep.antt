@@ -14,7 +14,7 @@ use borrow.Author.Tests.{eqb-true, eqb-false, eq-eqb, ne-eqb}
 use Rattle.nodeset.specs.declared.NodeSet.{NodeSet}
 use Rattle.nodeset.specs.Set.{width, has, isEmpty, lowestOf, only, union, meet, has-only, has-union, has-meet}
 use Rattle.nodeset.specs.Stored.{tableBytes, setAt, put, length-put, put-same, put-other, has-zeros}
-use Rattle.nodeset.specs.Below.{pick}
+use Rattle.wire.specs.Choice.{pick}
 use Rattle.nodeset.specs.Members.{HasExactly, empty-none, lowest-member}
 use Rattle.pattern.specs.declared.table.Kind.{Kind}
 use Rattle.pattern.specs.declared.table.Sort.{Sort}

@@ -16,7 +16,7 @@ use crate::relations::with_name;
 use crate::relations::with_property;
 use nodeset::NodeSet;
 use pattern::entry::Entry;
-use pattern::read::sort_at;
+use pattern::entry::sort_at;
 use pattern::table::END;
 use pattern::types::Comparison;
 ghost use mathlib.Core.Path.{_≡_};

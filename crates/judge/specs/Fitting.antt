@@ -4,31 +4,34 @@ use mathlib.Core.Path.{_≡_, refl}
 use mathlib.Core.Bool.{Bool, true, false}
 use mathlib.Core.List.{List, [], _∷_, _++_}
 use Prim.Native.Nat.{ℕ, zero, suc, _+_, _-_, _≤_, _<_}
-use native.Mathlib.Nat.{lt-trans, lt-suc-self, le-step, lt-of-le-of-lt, max-le}
+use native.Mathlib.Nat.{le-trans, lt-trans, lt-suc-self, lt-of-le-of-lt, max-le}
 use native.Mathlib.Omega.{arith}
-use lib.Dec.{ltb, lit<}
+use lib.Dec.{ltb, eqb, lit<}
 use lib.ListN.{length}
 use borrow.Author.Tests.{ltb-false}
-use Rattle.pattern.specs.Checks.Finding.{Finding, found, refused, Check, passes, refuses, refusesIf, _then_, unless, then-passes, refusesIf-passes}
+use Rattle.pattern.specs.Checks.Finding.{Finding, found, refused, Check, passes, refuses, refusesIf, _then_, unless, onward, thereupon, then-passes, refusesIf-passes}
 use Rattle.pattern.specs.Checks.Range.{someBelow, eachBelow}
 use Rattle.pattern.specs.File.Reading as reading
 use Rattle.pattern.specs.File.Reading.{countOf, patternCheck, readingOf}
 use Rattle.pattern.specs.File.Valid as pattern
-use Rattle.nodeset.specs.Below.{pick, lowestBelow, countBelow, lowest-le}
-use Rattle.evaluation.specs.Judged.{Judged, met, unmet, judgedOn, judgedBy}
-use Rattle.model.specs.File.Layout.{nodeCount, nameCount, edgeCount}
-use Rattle.model.specs.File.Checks as file
-use Rattle.model.specs.File.Valid as file-valid
+use Rattle.nodeset.specs.Below.{lowestBelow, countBelow, lowest-le}
+use Rattle.decision.specs.Judged.{Judged, met, unmet, judgedOn, judgedBy}
+use Rattle.model_file.specs.Layout.{nodeCount, nameCount, edgeCount}
+use Rattle.model_file.specs.Checks as file
+use Rattle.model_file.specs.Valid as file-valid
 use Rattle.model.specs.Judging as model
-use Rattle.rules.specs.declared.line.Line.{Line}
-use Rattle.rules.specs.declared.step.Step.{Step}
-use Rattle.rules.specs.declared.step.Conclusion.{Conclusion}
-use Rattle.rules.specs.Steps.{stepsFrom, stepAt, stepCheck, stepConcludes}
+use Rattle.lines.specs.declared.line.Line.{Line}
+use Rattle.rules.specs.declared.conclusion.Conclusion.{Conclusion}
+use Rattle.rules.specs.declared.conclusion.Outcome.{Outcome}
+use Rattle.rules.specs.Conclusions.{sides}
+use Rattle.steps.specs.declared.step.Step.{Step}
+use Rattle.steps.specs.Steps.{stepsFrom, stepAt, fieldCheck, concluded, stepOutcome, isStale, stepping}
 use Rattle.tableau.specs.declared.finding.Counts.{Counts}
 use Rattle.tableau.specs.declared.finding.Closed.{Closed}
-use Rattle.tableau.specs.Run.{run, onward, maxLines, added, linesCheck, waitingCheck, branchCheck, opened, counted, none}
-use Rattle.tableau.specs.Walk.{Bounded}
-use Rattle.tableau.specs.WalkLaws.{none-bounded}
+use Rattle.tableau.specs.Run.{run, maxLines, longest, linesCheck, waitingCheck, limitsCheck, branches, counted, none}
+use Rattle.tableau.specs.Counting.{one-at-most, clash-within}
+use Rattle.tableau_judge.specs.Walk.{Bounded}
+use Rattle.tableau_judge.specs.WalkLaws.{none-bounded}
 use Rattle.tableau.specs.Closure as closure
 use Rattle.tableau.specs.Judging as tableau
 
@@ -85,6 +88,11 @@ module _ {A : Type 0} (P : A → Type 0) where
   unless-fits passes value h g = g refl
   unless-fits (refuses number place) value h g = h
 
+thereupon-fits : {A B : Type 0} (P : A → Type 0) (Q : B → Type 0) (f : Finding A) (next : A → Finding B)
+    → Fitted P f → ((value : A) → Fitted Q (next value)) → Fitted Q (thereupon f next)
+thereupon-fits P Q (found value) next h g = g value
+thereupon-fits P Q (refused number place) next h g = h
+
 -- ---- reading a pattern
 module _ (bs : List ℕ) where
   header-fits : Fitting (reading.headerCheck bs)
@@ -121,11 +129,7 @@ begins-fits bs fault d f = then-fits (patternCheck bs) _ (pattern-fits bs) (λ e
 count-le : (n : ℕ) (test : ℕ → Bool) → countBelow n test ≤ n
 unfolding countBelow
 count-le zero test = omega arith
-count-le (suc n) test = omega (arith, count-le n test, one (test n))
-  where
-    one : (b : Bool) → pick b 1 0 ≤ 1
-    one true = omega arith
-    one false = omega arith
+count-le (suc n) test = omega (arith, count-le n test, one-at-most (test n))
 
 -- nothing is found above the number of nodes
 judged-fits : (n : ℕ) (test : ℕ → Bool) → Fits n → FitsJudged (judgedBy n test)
@@ -174,60 +178,50 @@ abbrev FitsCounts : Counts → Type 0
 FitsCounts n = Fits (n .clashes) × Fits (n .forks) × Fits (n .most)
 
 -- a step on a branch within 01's limit of lines counts one at most
-counted-bounded : (b : List Line) (c : Conclusion) (k : ℕ) (n : Counts) → length b + added c ≤ maxLines → Bounded k n
-    → Bounded (suc k) (counted b c n)
-counted-bounded b c k n short h = go c short
-  where
-    as-before : Bounded (suc k) n
-    as-before = record { few-clashes = le-step (h .few-clashes); few-forks = le-step (h .few-forks); few-most = h .few-most }
+counted-bounded : (lines k : ℕ) (n : Counts) (news : List (List Line)) → lines ≤ maxLines → Bounded k n → Bounded (suc k) (counted lines news n)
+counted-bounded lines k n news short h =
+    record {
+      few-clashes = omega (arith, h .few-clashes, one-at-most (eqb (length news) 0));
+      few-forks = omega (arith, h .few-forks, one-at-most (eqb (length news) 2));
+      few-most = max-le (h .few-most) (le-trans (clash-within lines news) short);
+    }
 
-    go : (c : Conclusion) → length b + added c ≤ maxLines → Bounded (suc k) (counted b c n)
-    go (Conclusion.One l) short = as-before
-    go (Conclusion.Two l m) short = as-before
-    go (Conclusion.New i l m) short = as-before
-    go (Conclusion.Fork l r) short =
-        record { few-clashes = as-before .few-clashes; few-forks = omega (arith, h .few-forks); few-most = h .few-most }
-    go Conclusion.Clash short =
-        record {
-          few-clashes = omega (arith, h .few-clashes);
-          few-forks = as-before .few-forks;
-          few-most = max-le (h .few-most) (omega (arith, short));
-        }
-    go Conclusion.Unfit short = as-before
+-- nothing is to fit of a conclusion
+abbrev Any : Conclusion → Type 0
+Any c = Unit {0}
 
-module _ (bs : List ℕ) (b : List Line) (waiting : ℕ) (s : Step) (k : ℕ) where
-  step-fits : Fits k → Fitting (stepCheck bs b s k)
-  unfolding stepCheck
-  step-fits l = search (fault-then, fault-fits, lit<) depth 7
+module _ (bs : List ℕ) (b : List Line) (k : ℕ) (l : Fits k) where
+  concluded-fits : (o : Outcome) → Fitted Any (concluded bs b k o)
+  concluded-fits (Outcome.Fits c) = unless-fits Any (refusesIf (isStale bs b c) 22 k) c (fault-fits (isStale bs b c) 22 k (lit< tt) l) (λ e. tt)
+  concluded-fits Outcome.Unfit = (lit< tt, l)
 
-  branch-fits : Fits k → Fitting (branchCheck bs b waiting s k)
-  unfolding branchCheck
-  branch-fits l = then-fits (stepCheck bs b s k) _ (step-fits l) (λ e. search (fault-then, fault-fits, lit<))
+  step-fits : (s : Step) → Fitted Any (stepping bs b s k)
+  unfolding stepping
+  step-fits s = onward-fits Any (fieldCheck b s k) _ (search (fault-then, fault-fits, lit<)) (λ e. concluded-fits (stepOutcome bs b s))
 
-  -- a step that passes stays within 01's limit of lines
-  branch-short : branchCheck bs b waiting s k ≡ passes → length b + added (stepConcludes bs b s) ≤ maxLines
-  unfolding branchCheck
-  branch-short h =
-      let c = stepConcludes bs b s in
-      let lines = linesCheck b c k in
-      let waits = waitingCheck waiting c k in
-      let p = then-passes lines waits (then-passes (stepCheck bs b s k) (lines then waits) h .1) in
-      ltb-false maxLines (length b + added c) (refusesIf-passes _ 23 k (p .0))
+  limits-fit : (waiting : ℕ) (c : Conclusion) → Fitting (limitsCheck b waiting c k)
+  limits-fit waiting c = search (fault-then, fault-fits, lit<)
+
+  -- a step that passes is on a branch within 01's limit of lines
+  limits-short : (waiting : ℕ) (c : Conclusion) → limitsCheck b waiting c k ≡ passes → length b ≤ maxLines
+  limits-short waiting c h =
+      let p = then-passes (linesCheck b c k) (waitingCheck waiting c k) h in
+      omega (arith, ltb-false maxLines (length b + longest (sides c)) (refusesIf-passes _ 23 k (p .0)))
 
 module _ (bs ss : List ℕ) where
   -- neither a refusal's place nor a count goes beyond the number of the steps, nor a branch beyond 01's limit
-  steps-fit : (branches : List (List Line)) (left k : ℕ) (n : Counts) → Fits (k + left) → Bounded k n
-      → Fitted FitsCounts (run bs branches (stepsFrom ss k left) k n)
+  steps-fit : (live : List (List Line)) (left k : ℕ) (n : Counts) → Fits (k + left) → Bounded k n
+      → Fitted FitsCounts (run bs live (stepsFrom ss k left) k n)
   unfolding run stepsFrom
   steps-fit [] zero k n l h = (omega (arith, l, h .few-clashes), omega (arith, l, h .few-forks), omega (arith, h .few-most))
   steps-fit [] (suc left) k n l h = (lit< tt, omega (arith, l))
   steps-fit (b ∷ waiting) zero k n l h = (lit< tt, omega (arith, l))
   steps-fit (b ∷ waiting) (suc left) k n l h =
-      let s = stepAt ss k in
-      let c = stepConcludes bs b s in
-      onward-fits FitsCounts (branchCheck bs b (length waiting) s k) _ (branch-fits bs b (length waiting) s k (omega (arith, l)))
-      (λ e. steps-fit (opened b c ++ waiting) left (suc k) (counted b c n) (omega (arith, l))
-      (counted-bounded b c k n (branch-short bs b (length waiting) s k e) h))
+      let fits : Fits k = omega (arith, l) in
+      thereupon-fits Any FitsCounts (stepping bs b (stepAt ss k) k) _ (step-fits bs b k fits (stepAt ss k))
+      (λ c. onward-fits FitsCounts (limitsCheck b (length waiting) c k) _ (limits-fit bs b k fits (length waiting) c)
+      (λ e. steps-fit (branches b (sides c) ++ waiting) left (suc k) (counted (length b) (sides c) n) (omega (arith, l))
+      (counted-bounded (length b) k n (sides c) (limits-short bs b k fits (length waiting) c e) h)))
 
 closed-fits : (s : ℕ) (f : Finding Counts) → Fits s → Fitted FitsCounts f → Fitted FitsClosed (tableau.closedBy s f)
 closed-fits s (found n) l h = (l, h .0, h .1, h .2)

@@ -17,19 +17,20 @@ use Rattle.pattern.specs.File.Entries.{sameBytes}
 use Rattle.pattern.specs.File.Valid.{valid}
 use Rattle.pattern.specs.File.Reading.{mark, headerCheck, entryCheck, rootCheck, patternCheck, readingOf}
 use Rattle.pattern.specs.Meaning.Expression.{end, nodeWithin, pathWithin, nodeAt, rootOf}
-use Rattle.evaluation.specs.Decision.{holdsTest, leadsTest}
-use Rattle.evaluation.specs.Judged.{Judged, met, unmet, judgedBy, judgedOf, judged-says}
+use Rattle.decision.specs.Decision.{holdsTest, leadsTest}
+use Rattle.decision.specs.Judged.{Judged, met, unmet, judgedBy, judgedOf, judged-says}
 use Rattle.pattern.specs.Meaning.Names.{usesName}
-use Rattle.model.specs.File.Layout as layout
-use Rattle.model.specs.File.Contents.{leadsIn, nodeNamed, modelFrom}
-use Rattle.model.specs.File.Checks as file
-use Rattle.model.specs.File.Checks.{nameCheck, edgeCheck, modelCheck}
-use Rattle.model.specs.File.Valid.{ValidModel, all-named}
+use Rattle.model_file.specs.Layout as layout
+use Rattle.model_file.specs.Contents.{leadsIn, nodeNamed, modelFrom}
+use Rattle.model_file.specs.Checks as file
+use Rattle.model_file.specs.Checks.{nameCheck, edgeCheck, modelCheck}
+use Rattle.model_file.specs.Valid.{ValidModel, all-named}
 use Rattle.model.specs.Judging.{areaNeed, judgingCheck, judgingOf, checks-pass, judging-finds, judging-refuses}
-use Rattle.rules.specs.Lines.{branchHas}
-use Rattle.rules.specs.Steps.{stepAt, stepsFrom, stepCheck}
+use Rattle.lines.specs.Lines.{branchHas}
+use Rattle.rules.specs.Rules.{ruleAt}
+use Rattle.steps.specs.Steps.{stepAt, stepsFrom, stepping}
 use Rattle.tableau.specs.declared.finding.Closed.{Closed}
-use Rattle.tableau.specs.Run.{run, branchCheck}
+use Rattle.tableau.specs.Run.{run}
 use Rattle.tableau.specs.Judging as tableau
 
 -- each of the claims
@@ -177,7 +178,7 @@ I-holds = (always-unmet, files, any)
         go (refuses number place) e = inr (number, (place, judging-refuses patternI ds size number place e))
 
 pub readings-hold : All readings
-unfolding readingOf patternCheck headerCheck entryCheck rootCheck eachField someBelow eachBelow sameBytes judgingOf judgingCheck modelCheck file.headerCheck nameCheck edgeCheck nodeAt nodeWithin pathWithin holdsTest leadsTest judgedBy lowestBelow countBelow leadsIn nodeNamed tableau.judgingOf tableau.judgingCheck tableau.headerCheck tableau.walked run branchCheck stepCheck stepAt stepsFrom branchHas usesName
+unfolding readingOf patternCheck headerCheck entryCheck rootCheck eachField someBelow eachBelow sameBytes judgingOf judgingCheck modelCheck file.headerCheck nameCheck edgeCheck nodeAt nodeWithin pathWithin holdsTest leadsTest judgedBy lowestBelow countBelow leadsIn nodeNamed tableau.judgingOf tableau.judgingCheck tableau.headerCheck tableau.walked run stepping ruleAt stepAt stepsFrom branchHas usesName
 readings-hold = (
   (λ size l. rw (le-ltb size 8192 l)),
   (

@@ -4,9 +4,9 @@ use mathlib.Core.Path.{_≡_, refl}
 use mathlib.Core.List.{List}
 use Prim.Native.Nat.{ℕ}
 use Rattle.pattern.specs.Checks.Finding.{Finding, found, refused}
-use Rattle.evaluation.specs.Judged.{Judged, met, unmet}
-use Rattle.model.specs.File.Contents.{modelFrom}
-use Rattle.model.specs.File.Valid.{all-named}
+use Rattle.decision.specs.Judged.{Judged, met, unmet}
+use Rattle.model_file.specs.Contents.{modelFrom}
+use Rattle.model_file.specs.Valid.{all-named}
 use Rattle.model.specs.Judging as model
 use Rattle.tableau.specs.declared.finding.Closed.{Closed}
 use Rattle.tableau.specs.Judging as tableau

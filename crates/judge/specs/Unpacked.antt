@@ -9,7 +9,7 @@ use lib.Dec.{eqb, lit<}
 use lib.Pow.{shr-shr}
 use Rattle.pattern.specs.Checks.Finding.{Finding, found, refused}
 use Rattle.pattern.specs.File.Reading.{readingOf}
-use Rattle.evaluation.specs.Judged.{Judged, met, unmet, judgedOn}
+use Rattle.decision.specs.Judged.{Judged, met, unmet, judgedOn}
 use Rattle.model.specs.Judging as model
 use Rattle.tableau.specs.declared.finding.Closed.{Closed}
 use Rattle.tableau.specs.Judging as tableau

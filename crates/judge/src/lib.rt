@@ -10,7 +10,7 @@ ghost use mathlib.Core.Logic.{_↔_};
 ghost use Prim.Native.Nat.{ℕ, _+_, _-_, _*_, _≤_};
 ghost use lib.ListN.{length};
 ghost use Rattle.pattern.specs.Checks.Finding.{found};
-ghost use Rattle.evaluation.specs.Judged.{Judged, met};
+ghost use Rattle.decision.specs.Judged.{Judged, met};
 ghost use Rattle.model.specs.Judging as model-specs;
 ghost use Rattle.tableau.specs.declared.finding.Closed.{Closed};
 ghost use Rattle.tableau.specs.Judging as tableau-specs;
@@ -19,7 +19,7 @@ ghost use Rattle.tableau.specs.Soundness.{Excluded};
 ghost use Rattle.judge.specs.Together.{NeverMet, NeverClosed};
 
 // The bytes of working area that are enough for either judgement.
-pub const AREA: usize = tableau::judge::AREA;
+pub const AREA: usize = tableau_judge::judge::AREA;
 
 // Judges a model. If it is met, any bytes judged as a tableau for the pattern are refused.
 pub fn judge_model(p: &[u8], d: &[u8], area: &mut [u8]) -> ModelFinding
@@ -42,5 +42,5 @@ pub fn judge_tableau(p: &[u8], t: &[u8], area: &mut [u8]) -> TableauFinding
     ensures clashes { λ r. ⌜ ((c : Closed) → tableau-specs.findingOf r ≡ found c → c .clashes ≡ c .forks + 1) ⌝ }
     ensures bound { λ r. ⌜ ((c : Closed) → tableau-specs.findingOf r ≡ found c → c .most ≤ 1 + 2 * (c .steps - c .clashes)) ⌝ }
 {
-    tableau::judge::judge(p, t, area)
+    tableau_judge::judge::judge(p, t, area)
 }

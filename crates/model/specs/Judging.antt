@@ -15,18 +15,18 @@ use Rattle.pattern.specs.File.Valid.{Valid, passes-valid, valid-passes}
 use Rattle.pattern.specs.Meaning.Expression.{rootOf}
 use Rattle.nodeset.specs.declared.NodeSet.{NodeSet}
 use Rattle.nodeset.specs.Set.{width, has}
-use Rattle.evaluation.specs.Decision.{holdsTest}
+use Rattle.decision.specs.Decision.{holdsTest}
 use Rattle.evaluation.specs.Tables.{IsSet}
 use Rattle.evaluation.specs.Standing.{Holding}
-use Rattle.evaluation.specs.Judged.{Judged, met, unmet, judgedBy, judgedOf, Says, judged-says, judged-same, holds-node}
+use Rattle.decision.specs.Judged.{Judged, met, unmet, judgedBy, judgedOf, Says, judged-says, judged-same, holds-node}
 use Rattle.pattern.specs.File.Reading as reading
+use Rattle.model_file.specs.Checks as file
+use Rattle.model_file.specs.Contents.{modelFrom}
+use Rattle.model_file.specs.Checks.{modelCheck}
+use Rattle.model_file.specs.Valid.{ValidModel, model-valid, model-accepted, all-named}
 use Rattle.model.specs.declared.judge.JudgeRefusal.{JudgeRefusal}
 use Rattle.model.specs.declared.judge.JudgeCheck.{JudgeCheck}
 use Rattle.model.specs.declared.judge.ModelFinding.{ModelFinding}
-use Rattle.model.specs.File.Checks as file
-use Rattle.model.specs.File.Contents.{modelFrom}
-use Rattle.model.specs.File.Checks.{modelCheck}
-use Rattle.model.specs.File.Valid.{ValidModel, model-valid, model-accepted, all-named}
 
 -- the bytes that judging a model wants of its working area for a pattern, and zeroes; they are those of evaluation's sets, `areaBytes`
 abbrev pub areaNeed : List ℕ → ℕ

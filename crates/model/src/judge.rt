@@ -1,16 +1,16 @@
 // Judging a model: document 01's refusals in its order, and then met, with the lowest node and the
 // number of nodes, or unmet.
-use crate::file::ModelCheck;
-use crate::file::ModelRefusal;
-use crate::file::check;
-use crate::tables::tabulate;
-use crate::tables::tabulate_values;
 use evaluation::rows::ALIKE_BYTES;
 use evaluation::rows::TABLE_BYTES;
+use model_file::ModelCheck;
+use model_file::ModelRefusal;
+use model_file::check;
+use model_tables::tabulate;
+use model_tables::tabulate_values;
 use nodeset::NodeSet;
-use pattern::read::PatternRead;
-use pattern::read::PatternRefusal;
-use pattern::read::read;
+use pattern::finding::PatternRead;
+use pattern::finding::PatternRefusal;
+use pattern_read::read;
 use wire::clear;
 ghost use mathlib.Core.Path.{_≡_};
 ghost use mathlib.Core.Logic.{_↔_};
@@ -20,9 +20,9 @@ ghost use Rattle.nodeset.specs.Set.{width, has};
 ghost use Rattle.pattern.specs.Checks.Finding.{found};
 ghost use Rattle.pattern.specs.File.Reading.{countOf, readingOf};
 ghost use Rattle.pattern.specs.Meaning.Expression.{rootOf};
-ghost use Rattle.evaluation.specs.Judged.{Judged, judgedBy, judgedOf};
-ghost use Rattle.model.specs.File.Contents.{modelFrom};
-ghost use Rattle.model.specs.File.Valid.{ValidModel};
+ghost use Rattle.decision.specs.Judged.{Judged, judgedBy, judgedOf};
+ghost use Rattle.model_file.specs.Contents.{modelFrom};
+ghost use Rattle.model_file.specs.Valid.{ValidModel};
 ghost use Rattle.model.specs.Judging.{areaNeed, judgingCheck, judgingOf, areaAfter, Judgement, refusalNumber, refusalPlace, checkOf, findingOf};
 
 // Document 01's refusals of judging a model: 1 to 8 of the pattern, 9 of the working area, 10 to 14

@@ -1,4 +1,2 @@
-// Judging a model: the model file and its checks, and the judgement.
-pub mod file;
+// Judging a model: the refusals of document 01 in its order, and the judgement.
 pub mod judge;
-mod tables;

@@ -6,11 +6,7 @@ use mathlib.Core.Logic.{_⊎_, inl, inr}
 use Prim.Native.Nat.{ℕ, zero, suc, _+_, _≤_, _<_}
 use native.Mathlib.Omega.{arith}
 use native.Mathlib.Nat.{not-suc-le-zero, le-of-suc-le-suc, eq-or-lt-of-le, lt-of-lt-of-le, zero-lt-suc, lt-suc-self, le-step}
-
--- the first number or the second, by a test
-abbrev pub pick : Bool → ℕ → ℕ → ℕ
-pick true a b = a
-pick false a b = b
+use Rattle.wire.specs.Choice.{pick}
 
 -- 01, "lowest node": the lowest number below n that passes; n itself where none does
 unfoldable pub lowestBelow : ℕ → (ℕ → Bool) → ℕ

@@ -11,7 +11,8 @@ use lib.Bits.{bitAnd, bitOr, bitXor, differ, and-step, or-step, xor-step, and-sh
 use lib.Count.{ones, ones-step, trailingZeros, under}
 use lib.Dec.{eqb, ltb, leb·zero, leb·suc-zero, leb·suc-suc, eqb·zero-suc, eqb·suc-zero, eqb·suc-suc}
 use lib.Pow.{pow-pos, field, mod-mod-pow}
-use Rattle.nodeset.specs.Below.{pick, lowestBelow, countBelow, count-same, lowest-same}
+use Rattle.wire.specs.Choice.{pick}
+use Rattle.nodeset.specs.Below.{lowestBelow, countBelow, count-same, lowest-same}
 
 -- bit k of x
 abbrev pub bit : ℕ → ℕ → ℕ

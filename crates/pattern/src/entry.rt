@@ -1,9 +1,11 @@
 // One entry of a pattern file: four bytes, its kind and its fields x, y and z.
 use crate::table::Kind;
+use crate::table::Sort;
 ghost use mathlib.Core.Path.{_≡_};
 ghost use Prim.Native.Nat.{_+_, _*_, _≤_};
 ghost use lib.ListN.{length};
 ghost use Rattle.pattern.specs.File.Entries.{entryAt};
+ghost use Rattle.pattern.specs.File.Reading.{sortAt};
 
 pub struct Entry {
     pub kind: Kind,
@@ -26,4 +28,14 @@ impl Entry {
             z: p[at + 3],
         }
     }
+}
+
+// The sort of entry k.
+pub fn sort_at(p: &[u8], k: u8) -> Sort
+    requires { ⌜ 10 + 4 * k ≤ length (now p) ⌝ }
+    ensures { λ r. ⌜ r ≡ sortAt (now (p .entry)) k ⌝ }
+{
+    let e = Entry::at(p, k);
+    let kind = e.kind;
+    kind.sort()
 }

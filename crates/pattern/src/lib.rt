@@ -1,8 +1,6 @@
-// Patterns: formulas of hybrid XPath with data comparisons, as document 01's pattern file holds
-// them. Reading a pattern checks any bytes whatever, and answers the number of entries or the first
-// refusal that applies.
+// Patterns: formulas of hybrid XPath with data comparisons, as document 01's pattern file holds them.
 pub mod entry;
+pub mod finding;
 pub mod names;
-pub mod read;
 pub mod table;
 pub mod types;

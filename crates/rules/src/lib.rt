@@ -1,12 +1,5 @@
-// What a tableau is made of: lines and steps, document 01's rules 1 to 23, and names that are fresh.
-mod comparisons;
-mod conclude;
-mod equality;
-mod fit;
-mod fresh;
-pub mod line;
-mod nodes;
-mod parts;
-pub mod step;
-pub mod stored;
-pub mod take;
+// Document 01's rules 1 to 23 as definitions and a table, what a rule concludes, and what the families
+// of rules have in common.
+pub mod conclusion;
+pub mod fit;
+pub mod table;

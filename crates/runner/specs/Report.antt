@@ -6,7 +6,7 @@ use mathlib.Core.List.{List}
 use Prim.Native.Nat.{ℕ}
 use Rattle.wire.specs.Fields.{beginsWith}
 use Rattle.pattern.specs.Checks.Finding.{Finding, found, refused}
-use Rattle.evaluation.specs.Judged.{Judged, met, unmet}
+use Rattle.decision.specs.Judged.{Judged, met, unmet}
 use Rattle.model.specs.Judging as model
 use Rattle.tableau.specs.declared.finding.Closed.{Closed}
 use Rattle.tableau.specs.Judging as tableau

@@ -1,60 +1,55 @@
 -- When a tableau closes, put declaratively: 01's "Lines and steps", its last paragraph.
 -- Assumes nothing.
-use mathlib.Core.Bool.{Bool, true, false, _||_}
+use mathlib.Core.Bool.{Bool}
 use mathlib.Core.List.{List, [], _∷_, _++_}
-use mathlib.Core.Path.{_≡_}
-use Prim.Native.Nat.{ℕ, suc, _+_, _≤_, _<_, max}
+use Prim.Native.Nat.{ℕ, _+_, _-_, _≤_, max}
 use lib.Dec.{eqb}
 use lib.ListN.{length}
-use Rattle.pattern.specs.Checks.Finding.{found}
-use Rattle.rules.specs.declared.line.Line.{Line}
-use Rattle.rules.specs.declared.step.Step.{Step}
-use Rattle.rules.specs.declared.step.Conclusion.{Conclusion}
-use Rattle.rules.specs.Steps.{stepping}
-use Rattle.tableau.specs.Run.{maxLines, maxWaiting}
+use Rattle.lines.specs.declared.line.Line.{Line}
+use Rattle.rules.specs.declared.conclusion.Conclusion.{Conclusion}
+use Rattle.rules.specs.Conclusions.{sides}
+use Rattle.rules.specs.Rules.{ruleAt}
+use Rattle.steps.specs.declared.step.Step.{Step}
+use Rattle.steps.specs.Steps.{Follows}
+use Rattle.tableau.specs.Run.{maxLines, maxWaiting, longest, further, oneIf, atClash}
 
--- the step follows a listed rule on the branch, and concludes c; the step's number, here 0, bears on the place of a refusal alone
-abbrev pub Follows : List ℕ → List Line → Step → Conclusion → Type 0
-Follows bs b s c = stepping bs b s 0 ≡ found c
+mutual
+  -- The steps close the branch, up to those that are left: the first follows a rule, and those behind it close the sides of what it concludes.
+  pub data Closes (bs : List ℕ) : List Line → List Step → List Step → Type 0 where
+    step : {b : List Line} {s : Step} {ss left : List Step} (c : Conclusion) → Follows bs b s c → CloseEach bs b (sides c) ss left
+        → Closes bs b (s ∷ ss) left
 
--- the conclusion adds these lines, in this order
-abbrev pub Adds : Conclusion → List Line → Type 0
-Adds (Conclusion.One l) new = new ≡ l ∷ []
-Adds (Conclusion.Two l m) new = new ≡ l ∷ m ∷ []
-Adds (Conclusion.New i l m) new = new ≡ l ∷ m ∷ []
-Adds (Conclusion.Fork l r) new = ⊥
-Adds Conclusion.Clash new = ⊥
-Adds Conclusion.Unfit new = ⊥
+  -- "At a fork each side is checked like a whole branch, left steps first; both begin from the lines before it. A clash ends its branch."
+  pub data CloseEach (bs : List ℕ) : List Line → List (List Line) → List Step → List Step → Type 0 where
+    none : {b : List Line} {ss : List Step} → CloseEach bs b [] ss ss
+    side : {b new : List Line} {more : List (List Line)} {ss next left : List Step}
+        → Closes bs (b ++ new) ss next → CloseEach bs b more next left → CloseEach bs b (new ∷ more) ss left
 
--- The steps close the branch, with no step left over; the number is the most lines that a branch has at its clash.
-pub data Closes (bs : List ℕ) : List Line → List Step → ℕ → Type 0 where
-  -- a step adds lines, and the rest of the steps close the longer branch
-  grows : {b : List Line} {s : Step} {ss : List Step} {most : ℕ} (c : Conclusion) (new : List Line)
-      → Follows bs b s c → Adds c new → Closes bs (b ++ new) ss most → Closes bs b (s ∷ ss) most
-  -- "At a fork each side is checked like a whole branch, left steps first; both begin from the lines before it."
-  forks : {b : List Line} {s : Step} {left right : List Step} {mostLeft mostRight : ℕ} (l r : Line)
-      → Follows bs b s (Conclusion.Fork l r) → Closes bs (b ++ l ∷ []) left mostLeft → Closes bs (b ++ r ∷ []) right mostRight
-      → Closes bs b (s ∷ left ++ right) (max mostLeft mostRight)
-  -- "A clash ends its branch."
-  clashes : {b : List Line} {s : Step} → Follows bs b s Conclusion.Clash → Closes bs b (s ∷ []) (length b)
+-- "most lines is the largest number of lines that a branch has at its clash"
+abbrev mutual
+  pub mostLines : {bs : List ℕ} {b : List Line} {ss left : List Step} → Closes bs b ss left → ℕ
+  mostLines (step {b} c f e) = max (atClash (length b) (sides c)) (mostOfEach e)
 
--- 01's limits are kept while so many right sides wait: no branch has over 1,024 lines, and no fork finds 64 waiting
-abbrev pub Keeps : {bs : List ℕ} {b : List Line} {ss : List Step} {most : ℕ} → ℕ → Closes bs b ss most → Type 0
-Keeps waiting (grows {b} c new f a d) = (length (b ++ new) ≤ maxLines) × Keeps waiting d
-Keeps waiting (forks {b} l r f d e) = (length b + 1 ≤ maxLines) × (waiting < maxWaiting) × (Keeps (suc waiting) d × Keeps waiting e)
-Keeps waiting (clashes f) = Unit {0}
+  pub mostOfEach : {bs : List ℕ} {b : List Line} {news : List (List Line)} {ss left : List Step} → CloseEach bs b news ss left → ℕ
+  mostOfEach none = 0
+  mostOfEach (side d e) = max (mostLines d) (mostOfEach e)
 
--- "clashes is the number of steps whose rule says clash": rules 21 to 23
+-- 01's limits are kept while so many right sides wait: no branch has over 1,024 lines, and the sides behind the first find places among the
+-- 64; while a side is checked those behind it wait too
+abbrev mutual
+  pub Keeps : {bs : List ℕ} {b : List Line} {ss left : List Step} → ℕ → Closes bs b ss left → Type 0
+  Keeps waiting (step {b} c f e) = (length b + longest (sides c) ≤ maxLines) × (further c ≤ maxWaiting - waiting) × KeepsEach waiting e
+
+  pub KeepsEach : {bs : List ℕ} {b : List Line} {news : List (List Line)} {ss left : List Step} → ℕ → CloseEach bs b news ss left → Type 0
+  KeepsEach waiting none = Unit {0}
+  KeepsEach waiting (side {more = more} d e) = Keeps (waiting + length more) d × KeepsEach waiting e
+
+-- "clashes is the number of steps whose rule says clash", "forks of those whose rule forks the branch in two (rule 13 doesn't)"
 abbrev pub saysClash : ℕ → Bool
-saysClash rule = eqb rule 21 || (eqb rule 22 || eqb rule 23)
+saysClash rule = eqb (ruleAt rule .sideCount) 0
 
--- "forks of those whose rule forks the branch in two (rule 13 doesn't)": rules 3, 11 and 12
 abbrev pub saysFork : ℕ → Bool
-saysFork rule = eqb rule 3 || (eqb rule 11 || eqb rule 12)
-
-abbrev pub oneIf : Bool → ℕ
-oneIf true = 1
-oneIf false = 0
+saysFork rule = eqb (ruleAt rule .sideCount) 2
 
 -- the number of the steps whose rule says so
 unfoldable pub stepsThat : (ℕ → Bool) → List Step → ℕ

@@ -3,27 +3,27 @@
 use mathlib.Core.Path.{_≡_, sym, _∙_, ap, subst}
 use mathlib.Core.Bool.{true, false, not, _||_}
 use mathlib.Core.Logic.{_↔_}
-use mathlib.Core.List.{List, [], _∷_, _++_, append-nil}
+use mathlib.Core.List.{List, [], _∷_, append-nil}
 use Prim.Native.Nat.{ℕ, _+_, _*_, _≤_, _<_}
 use native.Mathlib.Omega.{arith}
 use lib.Dec.{eqb, ltb}
 use lib.ListN.{length}
 use borrow.Author.Tests.{eqb-false, ltb-false, ne-eqb, le-ltb, eqb-true, not-false, eq-eqb}
 use Rattle.wire.specs.Fields.{beginsWith, wordAt}
-use Rattle.pattern.specs.Checks.Finding.{Finding, found, refused, passes, refuses, _then_, then-passes, refusesIf-passes}
+use Rattle.pattern.specs.Checks.Finding.{Finding, found, refused, passes, refuses, _then_, onward, then-passes, refusesIf-passes, onward-found}
 use Rattle.pattern.specs.Checks.Tests.{or-is-false}
 use Rattle.pattern.specs.File.Types.{maxName}
 use Rattle.pattern.specs.File.Reading.{countOf, patternCheck}
 use Rattle.pattern.specs.File.Valid.{Valid, passes-valid, valid-passes}
 use Rattle.pattern.specs.Meaning.Names.{usesName}
-use Rattle.rules.specs.declared.line.Line.{Line}
-use Rattle.rules.specs.declared.step.Step.{Step}
+use Rattle.lines.specs.declared.line.Line.{Line}
+use Rattle.steps.specs.declared.step.Step.{Step}
 use Rattle.tableau.specs.declared.finding.Counts.{Counts}
 use Rattle.tableau.specs.declared.finding.Closed.{Closed}
-use Rattle.tableau.specs.Run.{run, none, onward, onward-found}
-use Rattle.tableau.specs.Closing.{Closes, Keeps, saysClash, saysFork, stepsThat}
+use Rattle.tableau.specs.Run.{none}
+use Rattle.tableau.specs.Closing.{Closes, mostLines, Keeps, saysClash, saysFork, stepsThat}
 use Rattle.tableau.specs.Judging.{mark, startOf, stepCount, maxSteps, stepsOf, startLine, areaNeed, areaCheck, markCheck, versionCheck, countCheck, startCheck, headerCheck, judgingCheck, walked, closedBy, judgingOf}
-use Rattle.tableau.specs.Walked.{tallied, same-counts, closes-run, run-closes, run-done, done-runs}
+use Rattle.tableau.specs.Walked.{Ran, used, used-split, tallied, same-counts, closes-run, run-closes, run-done, done-runs}
 
 -- a header that meets the checks 15 to 18
 pub record ValidHeader (bs ts : List ℕ) : Type 0 where
@@ -36,13 +36,14 @@ pub record ValidHeader (bs ts : List ℕ) : Type 0 where
   pub start-unused : usesName bs (startOf ts) ≡ false
 
 -- "closed (steps, clashes, forks, most lines on a branch)": nothing was to be refused, and the steps of the file close the branch that has
--- line 0, limits kept; the counts are of those steps, and the most lines that a branch has at its clash.
+-- line 0, with none left over and limits kept; the counts are of those steps, and the most lines that a branch has at its clash.
 pub record Closure (bs ts : List ℕ) (size : ℕ) (c : Closed) : Type 0 where
   pub pattern-valid : Valid bs (countOf bs)
   pub area-long : areaNeed ≤ size
   pub header-valid : ValidHeader bs ts
-  pub closes : Closes bs (startLine bs ts ∷ []) (stepsOf ts) (c .most)
+  pub closes : Closes bs (startLine bs ts ∷ []) (stepsOf ts) []
   pub keeps : Keeps 0 closes
+  pub most-is : c .most ≡ mostLines closes
   pub steps-is : c .steps ≡ stepCount ts
   pub clashes-is : c .clashes ≡ stepsThat saysClash (stepsOf ts)
   pub forks-is : c .forks ≡ stepsThat saysFork (stepsOf ts)
@@ -129,30 +130,40 @@ module _ (bs ts : List ℕ) where
   -- steps that get through close the branch that has line 0, and are counted
   abbrev Counted : Counts → Type 0
   Counted n =
-      ((d : Closes bs first (stepsOf ts) (n .most)) × Keeps 0 d) × (n .clashes ≡ stepsThat saysClash (stepsOf ts))
+      ((d : Closes bs first (stepsOf ts) []) × (Keeps 0 d × (n .most ≡ mostLines d))) × (n .clashes ≡ stepsThat saysClash (stepsOf ts))
       × (n .forks ≡ stepsThat saysFork (stepsOf ts))
+
+  -- where no step is left over, the steps that close the branch are all
+  pub all-used : (d : Closes bs first (stepsOf ts) []) → used d ≡ stepsOf ts
+  all-used d = sym (used-split d ∙ append-nil (used d))
 
   walked-closes : (n : Counts) → walked bs ts ≡ found n → Counted n
   unfolding walked
-  walked-closes n h =
-      let r = run-closes bs first [] (stepsOf ts) 0 none n h in
-      let e = run-done bs (r .rest) (0 + length (r .used)) (tallied none (r .used) (r .most)) n (r .onwards) in
-      let all : r .used ≡ stepsOf ts = sym (r .split ∙ ap (λ (l : List Step). r .used ++ l) (e .0) ∙ append-nil (r .used)) in
-      let most : r .most ≡ n .most = omega (arith, ap (λ (m : Counts). m .most) (e .1)) in
-      let closes : (d : Closes bs first (r .used) (n .most)) × Keeps 0 d =
-      subst (λ (m : ℕ). (d : Closes bs first (r .used) m) × Keeps 0 d) most (r .closes, r .keeps) in (
-        subst (λ (l : List Step). (d : Closes bs first l (n .most)) × Keeps 0 d) all closes,
-        omega (arith, ap (λ (m : Counts). m .clashes) (e .1), ap (stepsThat saysClash) all),
-        omega (arith, ap (λ (m : Counts). m .forks) (e .1), ap (stepsThat saysFork) all),
-      )
+  walked-closes n h = go (r .left) (r .closes) (r .keeps) (run-done bs (r .left) _ _ n (r .onwards))
+    where
+      r : Ran bs first [] (stepsOf ts) 0 none n
+      r = run-closes bs first [] (stepsOf ts) 0 none n h
+
+      go : (left : List Step) (d : Closes bs first (stepsOf ts) left) → Keeps 0 d
+          → (left ≡ []) × (tallied none (used d) (mostLines d) ≡ n) → Counted n
+      go [] d keeps e =
+          let all = all-used d in (
+            (d, (keeps, sym (omega (arith, ap (λ (m : Counts). m .most) (e .1))))),
+            omega (arith, ap (λ (m : Counts). m .clashes) (e .1), ap (stepsThat saysClash) all),
+            omega (arith, ap (λ (m : Counts). m .forks) (e .1), ap (stepsThat saysFork) all),
+          )
+      go (s ∷ left) d keeps e = absurd (omega (arith, ap length (e .0)))
 
   closes-walked : (n : Counts) → Counted n → walked bs ts ≡ found n
   unfolding walked
   closes-walked n h =
-      ap (λ (l : List Step). run bs (first ∷ []) l 0 none) (sym (append-nil (stepsOf ts)))
-      ∙ closes-run bs (h .0 .0) (omega arith) [] (h .0 .1) [] 0 none
-      ∙ done-runs bs (0 + length (stepsOf ts)) (tallied none (stepsOf ts) (n .most))
-      ∙ ap found (same-counts (tallied none (stepsOf ts) (n .most)) n (omega (arith, h .1)) (omega (arith, h .2)) (omega arith))
+      let d = h .0 .0 in
+      let all = all-used d in
+      closes-run bs d [] (h .0 .1 .0) 0 none
+      ∙ done-runs bs (0 + length (used d)) (tallied none (used d) (mostLines d))
+      ∙ ap found (same-counts (tallied none (used d) (mostLines d)) n (omega (arith, h .1, ap (stepsThat saysClash) all))
+      (omega (arith, h .2, ap (stepsThat saysFork) all))
+      (omega (arith, h .0 .1 .1)))
 
 -- Demand 2 for tableaux: judging gives closed with these counts exactly where it is so.
 pub judging-closes : (bs ts : List ℕ) (size : ℕ) (c : Closed) → (judgingOf bs ts size ≡ found c) ↔ Closure bs ts size c
@@ -170,7 +181,8 @@ judging-closes bs ts size c = (apart, together)
           area-long = ok .1;
           header-valid = ok .2;
           closes = w .0 .0;
-          keeps = w .0 .1;
+          keeps = w .0 .1 .0;
+          most-is = w .0 .1 .1;
           steps-is = by .0;
           clashes-is = w .1;
           forks-is = w .2;
@@ -178,7 +190,7 @@ judging-closes bs ts size c = (apart, together)
 
     together : Closure bs ts size c → onward (judgingCheck bs ts size) (closedBy (stepCount ts) (walked bs ts)) ≡ found c
     together h =
-        let w = closes-walked bs ts (countsOf c) ((h .closes, h .keeps), h .clashes-is, h .forks-is) in
+        let w = closes-walked bs ts (countsOf c) ((h .closes, (h .keeps, h .most-is)), h .clashes-is, h .forks-is) in
         rw (checks-pass bs ts size .1 (h .pattern-valid, h .area-long, h .header-valid))
         (closed-by (stepCount ts) (walked bs ts) c .1 (h .steps-is, w))
 

@@ -1,32 +1,31 @@
 -- Judging a tableau, 01's "Findings": the tableau file, the refusals in their order, the finding, and what becomes of the working area.
 -- Assumes nothing.
-use mathlib.Core.Bool.{Bool, true, false, not, _||_}
+use mathlib.Core.Bool.{Bool, not, _&&_, _||_}
 use mathlib.Core.List.{List, [], _∷_}
 use Prim.Native.Nat.{ℕ, _+_, _-_, _*_}
 use lib.Dec.{leb, ltb, eqb}
 use lib.ListN.{length, getD, drop}
+use Rattle.wire.specs.Choice.{pick}
 use Rattle.wire.specs.Fields.{beginsWith, wordAt}
 use Rattle.wire.specs.Cleared.{cleared}
 use Rattle.pattern.specs.declared.types.Sign.{Sign}
-use Rattle.pattern.specs.Checks.Finding.{Finding, found, refused, Check, refusesIf, _then_, unless}
+use Rattle.pattern.specs.Checks.Finding.{Finding, found, refused, Check, refusesIf, _then_, onward}
 use Rattle.pattern.specs.File.Types.{maxName}
 use Rattle.pattern.specs.File.Reading.{countOf, patternCheck}
 use Rattle.pattern.specs.Meaning.Names.{usesName}
 use Rattle.pattern.specs.File.Reading as reading
-use Rattle.rules.specs.declared.line.Line.{Line}
-use Rattle.rules.specs.declared.step.Step.{Step}
-use Rattle.rules.specs.Lines.{has, name}
-use Rattle.rules.specs.Steps.{stepsFrom}
-use Rattle.rules.specs.Steps as steps
+use Rattle.lines.specs.declared.line.Line.{Line}
+use Rattle.steps.specs.declared.step.Step.{Step}
+use Rattle.lines.specs.Lines.{has, name}
+use Rattle.steps.specs.Steps.{stepsFrom}
+use Rattle.steps.specs.Steps as steps
 use Rattle.tableau.specs.declared.finding.Counts.{Counts}
 use Rattle.tableau.specs.declared.finding.Closed.{Closed}
 use Rattle.tableau.specs.declared.finding.HeaderRefusal.{HeaderRefusal}
-use Rattle.tableau.specs.declared.header.Header.{Header}
-use Rattle.tableau.specs.declared.header.HeaderRead.{HeaderRead}
 use Rattle.tableau.specs.declared.finding.WalkRefusal.{WalkRefusal}
 use Rattle.tableau.specs.declared.finding.TableauRefusal.{TableauRefusal}
 use Rattle.tableau.specs.declared.finding.TableauFinding.{TableauFinding}
-use Rattle.tableau.specs.Run.{run, none, onward}
+use Rattle.tableau.specs.Run.{run, none}
 
 -- ---- "Tableau file: mark `TAB`, 16-bit version 1, start name (one byte), 16-bit step count s (1 to 4096)."
 abbrev pub mark : List ℕ
@@ -84,13 +83,6 @@ startCheck bs ts = refusesIf (ltb maxName (startOf ts) || usesName bs (startOf t
 unfoldable pub headerCheck : List ℕ → List ℕ → Check
 headerCheck bs ts = markCheck ts then versionCheck ts then countCheck ts then startCheck bs ts
 
--- what the first 8 bytes say, where they aren't refused
-abbrev pub headerAt : List ℕ → Header
-headerAt ts = record { start = name (startOf ts); steps = stepCount ts }
-
-unfoldable pub headerOf : List ℕ → List ℕ → Finding Header
-headerOf bs ts = unless (headerCheck bs ts) (headerAt ts)
-
 -- "Refused 1 to 8. 9: .. 15: .." up to 18, for a working area of this many bytes
 unfoldable pub judgingCheck : List ℕ → List ℕ → ℕ → Check
 judgingCheck bs ts size = patternCheck bs then areaCheck size then headerCheck bs ts
@@ -106,22 +98,17 @@ abbrev pub closedBy : ℕ → Finding Counts → Finding Closed
 closedBy s (found n) = found (record { steps = s; clashes = n .clashes; forks = n .forks; most = n .most })
 closedBy s (refused number place) = refused number place
 
--- what is found of the steps' bytes, for a pattern of n entries and a header
-abbrev pub stepsFound : List ℕ → ℕ → List ℕ → Header → Finding Closed
-stepsFound bs n ss h = closedBy (h .steps) (run bs ((has Sign.Positive (h .start) (n - 1) ∷ []) ∷ []) (stepsFrom ss 0 (h .steps)) 0 none)
-
 -- "Judging a tableau gives closed"
 unfoldable pub judgingOf : List ℕ → List ℕ → ℕ → Finding Closed
 judgingOf bs ts size = onward (judgingCheck bs ts size) (closedBy (stepCount ts) (walked bs ts))
 
 -- "Refusals 1 to 9 and 15 to 18 leave the area unchanged; refusals 19 to 26 and closed zero its first 8,192 bytes, the rest unchanged."
-abbrev pub clearedIf : Bool → List ℕ → List ℕ
-clearedIf true area = cleared areaNeed area
-clearedIf false area = area
+abbrev pub clears : ℕ → Bool
+clears number = leb 19 number && leb number 26
 
 abbrev pub areaAfter : Finding Closed → List ℕ → List ℕ
 areaAfter (found c) area = cleared areaNeed area
-areaAfter (refused number place) area = clearedIf (leb 19 number) area
+areaAfter (refused number place) area = pick (clears number) (cleared areaNeed area) area
 
 -- ---- the code's answers, by 01's numbers and values
 abbrev pub headerNumber : HeaderRefusal → ℕ
@@ -129,10 +116,6 @@ headerNumber HeaderRefusal.Mark = 15
 headerNumber HeaderRefusal.Version = 16
 headerNumber HeaderRefusal.Count = 17
 headerNumber HeaderRefusal.Start = 18
-
-abbrev pub headerFinding : HeaderRead → Finding Header
-headerFinding (HeaderRead.Read h) = found h
-headerFinding (HeaderRead.Refused refusal) = refused (headerNumber refusal) 0
 
 abbrev pub walkNumber : WalkRefusal → ℕ
 walkNumber (WalkRefusal.Step refusal) = steps.refusalNumber refusal

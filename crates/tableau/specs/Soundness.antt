@@ -1,67 +1,44 @@
 -- Demand 3 for tableaux: where a tableau closes, no data model has a node where the root holds.
 -- Assumes nothing.
-use mathlib.Core.Path.{_≡_, sym, subst}
-use mathlib.Core.Bool.{false}
-use mathlib.Core.List.{List, [], _∷_, _++_}
+use mathlib.Core.Path.{sym}
+use mathlib.Core.List.{List}
 use Prim.Native.Nat.{ℕ, _-_}
 use native.Mathlib.Omega.{arith}
-use borrow.Author.Tests.{not-false}
 use Rattle.pattern.specs.Logic.Semantics.{Model, Naming, Holds}
 use Rattle.pattern.specs.Logic.Finite.{Finite, Named, NodeOf, modelOf, namingOf}
 use Rattle.pattern.specs.File.Reading.{countOf}
 use Rattle.pattern.specs.File.Valid.{Valid}
 use Rattle.pattern.specs.Meaning.Expression.{rootOf}
-use Rattle.rules.specs.declared.line.Line.{Line}
-use Rattle.rules.specs.declared.step.Step.{Step}
-use Rattle.rules.specs.declared.step.Conclusion.{Conclusion}
-use Rattle.rules.specs.Lines.{IsNode, AllFormed, formed-append}
-use Rattle.rules.specs.Steps.{isStale, step-fresh}
-use Rattle.rules.specs.Truth.{AllTrue, true-append}
-use Rattle.rules.specs.Naming.{renamed, renamed-same, moved-holds, still-true}
-use Rattle.rules.specs.FormedRules.{FormedConclusion, step-formed}
-use Rattle.rules.specs.Sound.{Sound, step-sound}
+use Rattle.lines.specs.declared.line.Line.{Line}
+use Rattle.steps.specs.declared.step.Step.{Step}
+use Rattle.lines.specs.Lines.{IsNode, AllFormed, formed-append}
+use Rattle.lines.specs.Truth.{AllTrue, true-append}
+use Rattle.lines.specs.Naming.{renamed, renamed-same, moved-holds}
+use Rattle.soundness.specs.FormedRules.{EachFormed, step-formed}
+use Rattle.soundness.specs.Sound.{EachRefuted, step-sound, renamed-true}
 use Rattle.tableau.specs.declared.finding.Closed.{Closed}
-use Rattle.tableau.specs.Closing.{Follows, Adds, Closes, grows, forks, clashes}
+use Rattle.tableau.specs.Closing.{Closes, CloseEach, step, none, side}
 use Rattle.tableau.specs.Judging.{startOf}
-use Rattle.tableau.specs.Walked.{follows-passes}
 use Rattle.tableau.specs.Closure.{Closure}
 
 module _ {bs : List ℕ} {n : ℕ} (ok : Valid bs n) (M : Model) where
-  -- what a step that follows a rule concludes is formed, can't be missed, and has a fresh name where it wants one
-  follows-soundly : (nom : Naming M) (b : List Line) (s : Step) (c : Conclusion) → Follows bs b s c → AllFormed bs n b → AllTrue bs M nom b
-      → FormedConclusion bs n c × Sound bs M nom c × (isStale bs b c ≡ false)
-  follows-soundly nom b s c f formed so =
-      let r = follows-passes bs b s c f 0 in
-      subst (λ (d : Conclusion). FormedConclusion bs n d × Sound bs M nom d × (isStale bs b d ≡ false)) (r .1)
-      (step-formed ok b formed s 0 (r .0), step-sound ok M nom b formed so s 0 (r .0), step-fresh bs b s 0 (r .0))
+  -- The lines of a branch that closes aren't all true, in any data model and under any naming. Each side of a step is refuted by itself, and
+  -- the rule's soundness makes ⊥ of the refutations: no side is chosen. Under a naming that gives the new names other nodes the lines of the
+  -- branch stay true.
+  mutual
+    pub sound : (nom : Naming M) {b : List Line} {ss left : List Step} → Closes bs b ss left → AllFormed bs n b → AllTrue bs M nom b → ⊥
+    sound nom (step {b} {s} c f e) formed so =
+        step-sound ok M nom b formed so s c f .not-all-refuted
+        (λ nom′ renames. each-refuted nom′ e formed (step-formed ok b formed s c f)
+        (renamed-true bs b ok M nom nom′ c (f .fresh) renames formed so))
 
-  -- where the longer branch can't be true, under any naming, the branch can't
-  grown : (nom : Naming M) (b : List Line) → AllFormed bs n b → AllTrue bs M nom b → (c : Conclusion) (new : List Line) → Adds c new
-      → FormedConclusion bs n c × Sound bs M nom c × (isStale bs b c ≡ false)
-      → ((nom′ : Naming M) → AllFormed bs n (b ++ new) → AllTrue bs M nom′ (b ++ new) → ⊥) → ⊥
-  grown nom b formed so (Conclusion.One l) new a h never =
-      h .1 (λ p. never nom (rw a (formed-append bs n b (l ∷ []) formed (h .0, tt))) (rw a (true-append bs M nom b (l ∷ []) so (p, tt))))
-  grown nom b formed so (Conclusion.Two l m) new a h never =
-      h .1 (λ p q. never nom (rw a (formed-append bs n b (l ∷ m ∷ []) formed (h .0 .0, (h .0 .1, tt))))
-      (rw a (true-append bs M nom b (l ∷ m ∷ []) so (p, (q, tt)))))
-  grown nom b formed so (Conclusion.New i l m) new a h never =
-      h .1 (λ y p q. let moved = renamed M nom (i .number) y in
-      never moved (rw a (formed-append bs n b (l ∷ m ∷ []) formed (h .0 .0, (h .0 .1, tt))))
-      (rw a (true-append bs M moved b (l ∷ m ∷ []) (still-true ok M nom (i .number) y b formed (not-false _ (h .2)) so) (p, (q, tt)))))
-  grown nom b formed so (Conclusion.Fork l r) new a h never = a
-  grown nom b formed so Conclusion.Clash new a h never = a
-  grown nom b formed so Conclusion.Unfit new a h never = a
-
-  -- The lines of a branch that closes aren't all true, in any data model and under any naming. At a fork each side is refuted
-  -- by itself, and the rule's soundness makes ⊥ of the two refutations: no side is chosen.
-  pub sound : (nom : Naming M) {b : List Line} {ss : List Step} {most : ℕ} → Closes bs b ss most → AllFormed bs n b → AllTrue bs M nom b → ⊥
-  sound nom (grows {b} {s} c new f a d) formed so =
-      grown nom b formed so c new a (follows-soundly nom b s c f formed so) (λ nom′ longer truly. sound nom′ d longer truly)
-  sound nom (forks {b} {s} l r f d e) formed so =
-      let h = follows-soundly nom b s (Conclusion.Fork l r) f formed so in
-      h .1 (λ p. sound nom d (formed-append bs n b (l ∷ []) formed (h .0 .0, tt)) (true-append bs M nom b (l ∷ []) so (p, tt)))
-      (λ q. sound nom e (formed-append bs n b (r ∷ []) formed (h .0 .1, tt)) (true-append bs M nom b (r ∷ []) so (q, tt)))
-  sound nom (clashes {b} {s} f) formed so = follows-soundly nom b s Conclusion.Clash f formed so .1
+    each-refuted : (nom : Naming M) {b : List Line} {news : List (List Line)} {ss left : List Step} → CloseEach bs b news ss left
+        → AllFormed bs n b → EachFormed bs n news → AllTrue bs M nom b → EachRefuted bs M nom news
+    each-refuted nom none formed each so = tt
+    each-refuted nom (side {b} {new} d e) formed each so = (
+      λ truly. sound nom d (formed-append bs n b new formed (each .0)) (true-append bs M nom b new so truly),
+      each-refuted nom e formed (each .1) so,
+    )
 
 -- A closed tableau excludes the root: over every abstract data model, of whatever nodes, and every naming. The start name isn't used in the
 -- pattern, so that it may be that of the node.

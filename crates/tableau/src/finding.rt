@@ -1,6 +1,6 @@
 // What judging a tableau finds.
-use pattern::read::PatternRefusal;
-use rules::step::StepRefusal;
+use pattern::finding::PatternRefusal;
+use steps::step::StepRefusal;
 ghost use mathlib.Core.Path.{_≡_};
 ghost use Rattle.tableau.specs.Judging.{headerNumber, walkNumber, walkPlace, refusalNumber, refusalPlace};
 

@@ -1,5 +1,2 @@
-// Judging a tableau: the walk over its branches, and the refusals of document 01 in its order.
+// A tableau: what its steps do to the open branches, when it closes, and what judging one finds.
 pub mod finding;
-mod header;
-pub mod judge;
-mod walk;

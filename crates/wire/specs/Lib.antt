@@ -1,3 +1,4 @@
+pub mod Choice
 pub mod Cleared
 pub mod Fields
 pub mod Blocks

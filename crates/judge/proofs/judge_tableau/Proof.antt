@@ -1,4 +1,4 @@
--- `judge::judge_tableau` meets its contract: it is what `tableau` found, and a closed finding is a closure.
+-- `judge::judge_tableau` meets its contract: it is what `tableau_judge` found, and a closed finding is a closure.
 -- Assumes nothing.
 use borrow.Author.Needs.{needs}
 use mathlib.Core.Path.{_≡_, sym, _∙_}
@@ -14,7 +14,7 @@ use Rattle.judge.proofs.judge_tableau.Statement.{statement}
 use Rattle.judge.proofs.judge_tableau.Tie as tie
 use Rattle.judge.proofs.judge_tableau.Reads as reads
 use Rattle.judge.proofs.judge_tableau.Lts as lts
-use Rattle.tableau.proofs.judge.judge.Reads as judge-reads
+use Rattle.tableau_judge.proofs.judge.judge.Reads as judge-reads
 
 judge-requires : tie.Need-judge-requires
 judge-requires c κs = search needs

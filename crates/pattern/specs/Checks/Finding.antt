@@ -31,6 +31,16 @@ abbrev pub unless : {A : Type 0} → Check → A → Finding A
 unless passes value = found value
 unless (refuses number place) value = refused number place
 
+-- what follows a check that passes
+abbrev pub onward : {A : Type 0} → Check → Finding A → Finding A
+onward passes f = f
+onward (refuses number place) f = refused number place
+
+-- what follows from what was found; a refusal stays
+abbrev pub thereupon : {A B : Type 0} → Finding A → (A → Finding B) → Finding B
+thereupon (found value) next = next value
+thereupon (refused number place) next = refused number place
+
 pub then-passes : (c d : Check) → c then d ≡ passes → (c ≡ passes) × (d ≡ passes)
 then-passes passes d h = (refl, h)
 then-passes (refuses number place) d h = (h, cc)
@@ -48,3 +58,7 @@ pub refused-refuses : {A : Type 0} (c : Check) (value : A) (number place : ℕ) 
     → c ≡ refuses number place
 refused-refuses passes value number place h = cc
 refused-refuses (refuses n p) value number place h = cc
+
+pub onward-found : {A : Type 0} (c : Check) (f : Finding A) (value : A) → onward c f ≡ found value → (c ≡ passes) × (f ≡ found value)
+onward-found passes f value h = (refl, h)
+onward-found (refuses number place) f value h = (cc, cc)

@@ -1,6 +1,6 @@
 -- What the outcome of a test that is put together of two says of each, and back.
 -- Assumes nothing.
-use mathlib.Core.Path.{_≡_, refl}
+use mathlib.Core.Path.{_≡_, refl, sym, ap, _∙_}
 use mathlib.Core.Bool.{Bool, true, false, _&&_, _||_}
 use mathlib.Core.Logic.{_⊎_, inl, inr}
 
@@ -22,3 +22,7 @@ or-left a b h = rw h
 pub or-right : (a b : Bool) → b ≡ true → a || b ≡ true
 or-right true b h = refl
 or-right false b h = h
+
+-- what the answer to a test says of a value that is equal to the one that was tested
+pub asked : {A : Type 0} (f : A → Bool) {a b : A} {r t : Bool} → a ≡ b → r ≡ f a → r ≡ t → f b ≡ t
+asked f e h k = ap f (sym e) ∙ (sym h ∙ k)

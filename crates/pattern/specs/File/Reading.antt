@@ -8,10 +8,10 @@ use lib.Dec.{leb, ltb, eqb}
 use Rattle.wire.specs.Fields.{beginsWith, wordAt}
 use Rattle.pattern.specs.declared.table.Sort.{Sort}
 use Rattle.pattern.specs.declared.table.Field.{Field}
-use Rattle.pattern.specs.declared.read.FieldTest.{FieldTest}
-use Rattle.pattern.specs.declared.read.PatternRefusal.{PatternRefusal}
-use Rattle.pattern.specs.declared.read.PatternCheck.{PatternCheck}
-use Rattle.pattern.specs.declared.read.PatternRead.{PatternRead}
+use Rattle.pattern.specs.declared.finding.FieldTest.{FieldTest}
+use Rattle.pattern.specs.declared.finding.PatternRefusal.{PatternRefusal}
+use Rattle.pattern.specs.declared.finding.PatternCheck.{PatternCheck}
+use Rattle.pattern.specs.declared.finding.PatternRead.{PatternRead}
 use Rattle.pattern.specs.File.Types.{maxName, maxProperty, maxAxis, maxChannel}
 use Rattle.pattern.specs.Checks.Finding.{Finding, found, refused, Check, passes, refuses, refusesIf, _then_, unless}
 use Rattle.pattern.specs.Checks.Range.{someBelow, eachBelow}

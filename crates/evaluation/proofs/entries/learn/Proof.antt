@@ -14,7 +14,7 @@ use Rattle.evaluation.proofs.entries.learn.Reads as reads
 use Rattle.evaluation.proofs.entries.learn.Lts as lts
 use Rattle.evaluation.proofs.entries.evaluate.Reads as evaluate-reads
 use Rattle.nodeset.proofs.NodeSet.store.Reads as store-reads
-use Rattle.pattern.proofs.read.sort_at.Reads as sort-at-reads
+use Rattle.pattern.proofs.entry.sort_at.Reads as sort-at-reads
 use Rattle.pattern.proofs.table.Sort.is_node.Reads as is-node-reads
 
 sort-at-requires : tie.Need-sort-at-requires

@@ -8,8 +8,8 @@ use Rattle.judge.proofs.exports.read_answer.Reads as reads
 use Rattle.judge.proofs.exports.read_answer.Lts as lts
 use Rattle.judge.proofs.exports.packed.Reads as packed-reads
 use Rattle.judge.proofs.exports.refused_answer.Reads as refused-answer-reads
-use Rattle.pattern.proofs.read.PatternRefusal.number.Reads as number-reads
-use Rattle.pattern.proofs.read.PatternRefusal.place.Reads as place-reads
+use Rattle.pattern.proofs.finding.PatternRefusal.number.Reads as number-reads
+use Rattle.pattern.proofs.finding.PatternRefusal.place.Reads as place-reads
 
 enum-known-f : tie.Need-enum-known-f
 enum-known-f c = search needs

@@ -3,7 +3,7 @@
 use mathlib.Core.Path.{sym, _∙_, ap}
 use lib.ListN.{length}
 use Rattle.pattern.specs.Checks.Finding.{Finding}
-use Rattle.evaluation.specs.Judged.{Judged}
+use Rattle.decision.specs.Judged.{Judged}
 use Rattle.model.specs.Judging.{areaAfter, finding-means}
 use Rattle.judge.specs.Packed.{kindOf, modelAnswer, met-rules-out}
 use Rattle.judge.specs.Unpacked.{unpackModel, unpack-model}

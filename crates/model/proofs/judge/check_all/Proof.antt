@@ -5,15 +5,15 @@ use mathlib.Core.Path.{_≡_, sym, _∙_, ap}
 use Rattle.pattern.specs.Checks.Finding.{passes}
 use Rattle.pattern.specs.File.Reading.{patternCheck, findingOf}
 use Rattle.pattern.specs.File.Valid.{read-passes, read-refuses}
-use Rattle.model.specs.File.Checks.{checkOf}
+use Rattle.model_file.specs.Checks.{checkOf}
 use Rattle.model.specs.Judging.{judgingCheck}
 use borrow.Author.Tests.{lt-ltb, le-ltb}
 use Rattle.model.proofs.judge.check_all.Statement.{statement}
 use Rattle.model.proofs.judge.check_all.Tie as tie
 use Rattle.model.proofs.judge.check_all.Reads as reads
 use Rattle.model.proofs.judge.check_all.Lts as lts
-use Rattle.model.proofs.file.check.Reads as check-reads
-use Rattle.pattern.proofs.read.read.Reads as read-reads
+use Rattle.model_file.proofs.check.Reads as check-reads
+use Rattle.pattern_read.proofs.read.Reads as read-reads
 
 read-requires : tie.Need-read-requires
 read-requires c κs = search needs

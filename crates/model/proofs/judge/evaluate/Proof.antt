@@ -12,8 +12,8 @@ use Rattle.pattern.specs.File.Reading.{countOf}
 use Rattle.pattern.specs.File.Valid.{valid}
 use Rattle.evaluation.specs.Tables.{modelRows, IsSet}
 use Rattle.evaluation.specs.Standing.{Holding}
-use Rattle.model.specs.File.Contents.{modelFrom}
-use Rattle.model.specs.File.Valid.{all-named}
+use Rattle.model_file.specs.Contents.{modelFrom}
+use Rattle.model_file.specs.Valid.{all-named}
 use Rattle.model.specs.Judging.{root-judged}
 use Rattle.model.proofs.judge.evaluate.Statement.{statement}
 use Rattle.model.proofs.judge.evaluate.Tie as tie
@@ -21,8 +21,8 @@ use Rattle.model.proofs.judge.evaluate.Reads as reads
 use Rattle.model.proofs.judge.evaluate.Lts as lts
 use Rattle.evaluation.proofs.root_nodes.Reads as root-nodes-reads
 use Rattle.wire.proofs.clear.Reads as clear-reads
-use Rattle.model.proofs.tables.tabulate.Reads as tabulate-reads
-use Rattle.model.proofs.tables.tabulate_values.Reads as tabulate-values-reads
+use Rattle.model_tables.proofs.tabulate.Reads as tabulate-reads
+use Rattle.model_tables.proofs.tabulate_values.Reads as tabulate-values-reads
 
 slice-aggregate-tabulate : tie.Need-slice-aggregate-tabulate
 slice-aggregate-tabulate c = search needs

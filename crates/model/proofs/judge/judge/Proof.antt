@@ -9,7 +9,7 @@ use Rattle.wire.specs.Cleared.{front-length, cleared-front}
 use Rattle.pattern.specs.Checks.Finding.{found, passes}
 use Rattle.pattern.specs.File.Reading.{countOf}
 use Rattle.pattern.specs.File.Valid.{Valid, valid-read}
-use Rattle.model.specs.File.Valid.{ValidModel}
+use Rattle.model_file.specs.Valid.{ValidModel}
 use Rattle.model.specs.Judging.{areaNeed, judgingCheck, checkOf, checks-pass, judging-finds, judging-refuses, finding-means}
 use Rattle.model.proofs.judge.judge.Statement.{statement}
 use Rattle.model.proofs.judge.judge.Tie as tie

@@ -5,7 +5,7 @@ use mathlib.Core.Path.{sym, _∙_, ap}
 use borrow.Author.Tests.{eqb-true}
 use Rattle.nodeset.specs.Set.{width, has, sizeOf}
 use Rattle.pattern.specs.Checks.Finding.{found}
-use Rattle.evaluation.specs.Judged.{judged-empty, judged-low}
+use Rattle.decision.specs.Judged.{judged-empty, judged-low}
 use Rattle.nodeset.specs.Members.{lowest-member}
 use Rattle.model.proofs.judge.judged.Statement.{statement}
 use Rattle.model.proofs.judge.judged.Tie as tie

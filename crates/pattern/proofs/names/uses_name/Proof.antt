@@ -9,7 +9,7 @@ use borrow.Author.Count.{below-none, below-more}
 use Rattle.pattern.specs.declared.entry.Entry.{Entry}
 use Rattle.pattern.specs.File.Valid.{Valid, valid}
 use Rattle.pattern.specs.Meaning.Names.{hasName, entryUses, uses-at, unused}
-use Rattle.pattern.proofs.Asked.{asked}
+use Rattle.pattern.specs.Checks.Tests.{asked}
 use Rattle.pattern.proofs.names.uses_name.Statement.{statement}
 use Rattle.pattern.proofs.names.uses_name.Tie as tie
 

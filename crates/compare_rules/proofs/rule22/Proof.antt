@@ -1,0 +1,31 @@
+-- `compare_rules::rule22` meets its contract.
+-- Assumes nothing.
+use mathlib.Core.Path.{sym, _∙_}
+use borrow.Author.Needs.{needs}
+use Rattle.compare_rules.proofs.rule22.Statement.{statement}
+use Rattle.compare_rules.proofs.rule22.Tie as tie
+
+as-compare-requires : tie.Need-as-compare-requires
+as-compare-requires c κs = search needs
+
+enum-known-m : tie.Need-enum-known-m
+enum-known-m c = search needs
+
+enum-told : tie.Need-enum-told
+enum-told c = search needs
+
+returns : tie.Need-returns
+returns c = search needs
+
+contrary-requires : tie.Need-contrary-requires
+contrary-requires c κs = search needs
+
+returns-2 : tie.Need-returns-2
+returns-2 c =
+    let s = c .before .before in
+    rw (sym (s .before .before .as-compare .ensures) ∙ s .m .given .1) (c .contrary .ensures)
+
+pub rule22-spec : {M : Type 1} → statement M
+rule22-spec =
+    tie.close
+    (tie.spec as-compare-requires enum-known-m enum-told returns contrary-requires returns-2)

@@ -1,0 +1,238 @@
+-- Lines in lent bytes, eight a line.
+-- Assumes nothing.
+use mathlib.Core.Path.{_≡_, refl, sym, ap, _∙_}
+use mathlib.Core.Bool.{false, not, _&&_, _||_, or-false}
+use mathlib.Core.List.{List, [], _∷_, _++_}
+use Prim.Native.Nat.{ℕ, zero, suc, _+_, _-_, _*_, _≤_, _<_}
+use native.Mathlib.Nat.{not-suc-le-zero, le-of-suc-le-suc, le-refl, add-zero, zero-add}
+use native.Mathlib.Omega.{arith}
+use native.Mathlib.Numerals.{add-one}
+use borrow.Author.Tests.{lt-ltb}
+use lib.Dec.{eqb, ltb}
+use lib.ListN.{length, getD}
+use Rattle.wire.specs.Blocks.{putFrom, length-from, from-out, from-in, apart}
+use Rattle.pattern.specs.declared.types.Channel.{Channel}
+use Rattle.pattern.specs.declared.types.Sign.{Sign}
+use Rattle.pattern.specs.declared.types.Comparison.{Comparison}
+use Rattle.pattern.specs.File.Types.{channelNumber}
+use Rattle.lines.specs.declared.line.Line.{Line}
+use Rattle.lines.specs.Lines.{has, is, leads, side, compare, name, axis, lineHas, branchHas, lineOn}
+use Rattle.lines.specs.Parts.{channelAt}
+
+abbrev pub signNumber : Sign → ℕ
+signNumber Sign.Positive = 0
+signNumber Sign.Negative = 1
+
+abbrev pub signAt : ℕ → Sign
+signAt zero = Sign.Positive
+signAt (suc n) = Sign.Negative
+
+abbrev pub comparisonNumber : Comparison → ℕ
+comparisonNumber Comparison.Same = 0
+comparisonNumber Comparison.Differ = 1
+
+abbrev pub comparisonAt : ℕ → Comparison
+comparisonAt zero = Comparison.Same
+comparisonAt (suc n) = Comparison.Differ
+
+-- the byte of a comparison's form: the highest, so that a further form is one of the numbers below it
+abbrev pub comparisonForm : ℕ
+comparisonForm = 255
+
+-- the eight bytes of a line: its form, and then its parts
+abbrev pub bytesOf : Line → List ℕ
+bytesOf (Line.Has l) = 0 ∷ signNumber (l .sign) ∷ l .name .number ∷ l .node ∷ 0 ∷ 0 ∷ 0 ∷ 0 ∷ []
+bytesOf (Line.Is l) = 1 ∷ signNumber (l .sign) ∷ l .first .number ∷ l .second .number ∷ 0 ∷ 0 ∷ 0 ∷ 0 ∷ []
+bytesOf (Line.Edge l) = 2 ∷ l .axis .number ∷ l .from .number ∷ l .to .number ∷ 0 ∷ 0 ∷ 0 ∷ 0 ∷ []
+bytesOf (Line.Compare l) =
+    comparisonForm ∷ signNumber (l .sign) ∷ comparisonNumber (l .comparison) ∷ channelNumber (l .channel) ∷ l .left .name .number
+    ∷ l .left .path ∷ l .right .name .number ∷ l .right .path ∷ []
+
+-- the line of eight bytes
+abbrev pub lineOfForm : ℕ → ℕ → ℕ → ℕ → ℕ → ℕ → ℕ → ℕ → Line
+lineOfForm zero b c d e f g h = has (signAt b) (name c) d
+lineOfForm (suc zero) b c d e f g h = is (signAt b) (name c) (name d)
+lineOfForm (suc (suc zero)) b c d e f g h = leads (axis b) (name c) (name d)
+lineOfForm (suc (suc (suc n))) b c d e f g h = compare (signAt b) (comparisonAt c) (channelAt d) (side (name e) f) (side (name g) h)
+
+-- the comparison of eight bytes
+abbrev pub compareOf : List ℕ → Line
+compareOf bs = lineOfForm comparisonForm (getD bs 1 0) (getD bs 2 0) (getD bs 3 0) (getD bs 4 0) (getD bs 5 0) (getD bs 6 0) (getD bs 7 0)
+
+-- line k of the lent bytes
+unfoldable pub lineAt : List ℕ → ℕ → Line
+lineAt xs k =
+    lineOfForm (getD xs (8 * k) 0) (getD xs (8 * k + 1) 0) (getD xs (8 * k + 2) 0) (getD xs (8 * k + 3) 0) (getD xs (8 * k + 4) 0)
+    (getD xs (8 * k + 5) 0) (getD xs (8 * k + 6) 0) (getD xs (8 * k + 7) 0)
+
+-- the next so many lines, from line k on; a branch of n lines is `linesFrom xs 0 n`
+unfoldable pub linesFrom : List ℕ → ℕ → ℕ → List Line
+linesFrom xs k zero = []
+linesFrom xs k (suc left) = lineAt xs k ∷ linesFrom xs (suc k) left
+
+-- the lent bytes with l as line k
+unfoldable pub putLine : List ℕ → ℕ → Line → List ℕ
+putLine xs k l = putFrom xs (8 * k) 0 (bytesOf l)
+
+-- ---- laws
+
+pub sign-beyond : (n : ℕ) → (n ≡ 0 → ⊥) → signAt n ≡ Sign.Negative
+sign-beyond zero h = absurd (h refl)
+sign-beyond (suc n) h = refl
+
+pub comparison-beyond : (n : ℕ) → (n ≡ 0 → ⊥) → comparisonAt n ≡ Comparison.Differ
+comparison-beyond zero h = absurd (h refl)
+comparison-beyond (suc n) h = refl
+
+-- a form that is none of the first three
+pub form-beyond : (n b c d e f g h : ℕ) → (n ≡ 0 → ⊥) → (n ≡ 1 → ⊥) → (n ≡ 2 → ⊥)
+    → lineOfForm n b c d e f g h ≡ lineOfForm comparisonForm b c d e f g h
+form-beyond zero b c d e f g h x y z = absurd (x refl)
+form-beyond (suc zero) b c d e f g h x y z = absurd (y refl)
+form-beyond (suc (suc zero)) b c d e f g h x y z = absurd (z refl)
+form-beyond (suc (suc (suc n))) b c d e f g h x y z = refl
+
+-- the names of a line are at bytes 2 and 3, those of a comparison at 4 and 6; a line of the first form has one
+form-has : (n b c d e f g h i : ℕ)
+    → lineHas (lineOfForm n b c d e f g h) i ≡ (ltb 2 n && (eqb e i || eqb g i) || not (ltb 2 n) && (eqb c i || (not (eqb n 0) && eqb d i)))
+form-has zero b c d e f g h i = sym (or-false (eqb c i))
+form-has (suc zero) b c d e f g h i = refl
+form-has (suc (suc zero)) b c d e f g h i = refl
+form-has (suc (suc (suc n))) b c d e f g h i = rw (lt-ltb 2 (suc (suc (suc n))) (omega arith)) (sym (or-false (eqb e i || eqb g i)))
+
+pub line-has : (xs : List ℕ) (k i : ℕ)
+    → lineHas (lineAt xs k) i
+    ≡ (ltb 2 (getD xs (8 * k) 0) && (eqb (getD xs (8 * k + 4) 0) i || eqb (getD xs (8 * k + 6) 0) i)
+    || not (ltb 2 (getD xs (8 * k) 0)) && (eqb (getD xs (8 * k + 2) 0) i || (not (eqb (getD xs (8 * k) 0) 0) && eqb (getD xs (8 * k + 3) 0) i)))
+unfolding lineAt
+line-has xs k i = rw form-has refl
+
+sign-back : (s : Sign) → signAt (signNumber s) ≡ s
+sign-back Sign.Positive = refl
+sign-back Sign.Negative = refl
+
+comparison-back : (c : Comparison) → comparisonAt (comparisonNumber c) ≡ c
+comparison-back Comparison.Same = refl
+comparison-back Comparison.Differ = refl
+
+pub channel-back : (e : Channel) → channelAt (channelNumber e) ≡ e
+channel-back Channel.C0 = refl
+channel-back Channel.C1 = refl
+channel-back Channel.C2 = refl
+channel-back Channel.C3 = refl
+
+-- the line read back from its bytes
+line-back : (l : Line) → lineAt (bytesOf l) 0 ≡ l
+unfolding lineAt
+line-back (Line.Has l) = ap (λ (s : Sign). has s (l .name) (l .node)) (sign-back (l .sign))
+line-back (Line.Is l) = ap (λ (s : Sign). is s (l .first) (l .second)) (sign-back (l .sign))
+line-back (Line.Edge l) = refl
+line-back (Line.Compare l) = rw (sign-back (l .sign), comparison-back (l .comparison), channel-back (l .channel)) refl
+
+bytes-length : (l : Line) → length (bytesOf l) ≡ 8
+bytes-length (Line.Has l) = refl
+bytes-length (Line.Is l) = refl
+bytes-length (Line.Edge l) = refl
+bytes-length (Line.Compare l) = refl
+
+-- equal bytes make equal lines
+line-same : (xs ys : List ℕ) (k m : ℕ) → ((j : ℕ) → j < 8 → getD xs (8 * k + j) 0 ≡ getD ys (8 * m + j) 0) → lineAt xs k ≡ lineAt ys m
+unfolding lineAt
+line-same xs ys k m h =
+    rw (
+      sym (ap (λ (n : ℕ). getD xs n 0) (add-zero (8 * k))) ∙ h 0 (omega arith) ∙ ap (λ (n : ℕ). getD ys n 0) (add-zero (8 * m)),
+      h 1 (omega arith),
+      h 2 (omega arith),
+      h 3 (omega arith),
+      h 4 (omega arith),
+      h 5 (omega arith),
+      h 6 (omega arith),
+      h 7 (omega arith),
+    ) refl
+
+pub length-put : (xs : List ℕ) (k : ℕ) (l : Line) → length (putLine xs k l) ≡ length xs
+unfolding putLine
+length-put xs k l = length-from xs (8 * k) 0 (bytesOf l)
+
+-- the line stored is read back
+pub put-same : (xs : List ℕ) (k : ℕ) (l : Line) → 8 * (k + 1) ≤ length xs → lineAt (putLine xs k l) k ≡ l
+unfolding putLine
+put-same xs k l h =
+    line-same (putFrom xs (8 * k) 0 (bytesOf l)) (bytesOf l) k 0 (λ j i.
+    ap (λ (n : ℕ). getD (putFrom xs (8 * k) 0 (bytesOf l)) (n + j) 0) (sym (add-zero (8 * k)))
+    ∙ from-in xs (8 * k) 0 (bytesOf l) j (rw (bytes-length l) i) (rw (bytes-length l) (omega (arith, h)))
+    ∙ ap (λ (n : ℕ). getD (bytesOf l) n 0) (sym (zero-add j)))
+    ∙ line-back l
+
+-- every other line is left as it was
+pub put-other : (xs : List ℕ) (k j : ℕ) (l : Line) → (j ≡ k → ⊥) → lineAt (putLine xs k l) j ≡ lineAt xs j
+unfolding putLine
+put-other xs k j l h =
+    line-same (putFrom xs (8 * k) 0 (bytesOf l)) xs j j (λ i b.
+    from-out xs (8 * k) 0 (bytesOf l) (8 * j + i) (rw (bytes-length l) (apart k j i h b)))
+
+pub length-lines : (xs : List ℕ) (k n : ℕ) → length (linesFrom xs k n) ≡ n
+unfolding linesFrom
+length-lines xs k zero = refl
+length-lines xs k (suc n) = ap suc (length-lines xs (suc k) n)
+
+-- line j of the lines from k on
+line-on-from : (xs : List ℕ) (k n j : ℕ) → j < n → lineOn (linesFrom xs k n) j ≡ lineAt xs (k + j)
+unfolding linesFrom
+line-on-from xs k zero j h = absurd (not-suc-le-zero h)
+line-on-from xs k (suc n) zero h = ap (lineAt xs) (sym (add-zero k))
+line-on-from xs k (suc n) (suc j) h = line-on-from xs (suc k) n j (le-of-suc-le-suc h) ∙ ap (lineAt xs) place
+  where
+    place : suc k + j ≡ k + suc j
+    place = omega arith
+
+pub line-on : (xs : List ℕ) (n j : ℕ) → j < n → lineOn (linesFrom xs 0 n) j ≡ lineAt xs j
+line-on xs n j h = line-on-from xs 0 n j h ∙ ap (lineAt xs) (zero-add j)
+
+-- one line more
+pub lines-more : (xs : List ℕ) (k n : ℕ) → linesFrom xs k (n + 1) ≡ linesFrom xs k n ++ lineAt xs (k + n) ∷ []
+unfolding linesFrom
+lines-more xs k n = ap (linesFrom xs k) (add-one n) ∙ go k n
+  where
+    go : (k n : ℕ) → linesFrom xs k (suc n) ≡ linesFrom xs k n ++ lineAt xs (k + n) ∷ []
+    go k zero = ap (λ (m : ℕ). lineAt xs m ∷ []) (sym (add-zero k))
+    go k (suc n) =
+        ap (λ (ls : List Line). lineAt xs k ∷ ls) (go (suc k) n ∙ ap (λ (m : ℕ). linesFrom xs (suc k) n ++ lineAt xs m ∷ []) (place k n))
+      where
+        place : (k n : ℕ) → suc k + n ≡ k + suc n
+        place k n = omega arith
+
+-- equal lines, one by one
+pub lines-same : (xs ys : List ℕ) (k n : ℕ) → ((j : ℕ) → k ≤ j → j < k + n → lineAt xs j ≡ lineAt ys j) → linesFrom xs k n ≡ linesFrom ys k n
+unfolding linesFrom
+lines-same xs ys k zero h = refl
+lines-same xs ys k (suc n) h =
+    rw (h k (le-refl k) (omega arith), lines-same xs ys (suc k) n (λ j l m. h j (omega (arith, l)) (omega (arith, m)))) refl
+
+-- a line stored after the first n
+pub push-line : (xs : List ℕ) (n : ℕ) (l : Line) → 8 * (n + 1) ≤ length xs → linesFrom (putLine xs n l) 0 (n + 1) ≡ linesFrom xs 0 n ++ l ∷ []
+push-line xs n l h =
+    lines-more (putLine xs n l) 0 n
+    ∙ rw (
+      lines-same (putLine xs n l) xs 0 n (λ j a b. put-other xs n j l (λ e. omega (arith, b, e))),
+      zero-add n,
+      put-same xs n l h,
+    ) refl
+
+-- "a branch has a name if its first line has it or the rest, asked the same way, has it": no line is left, or the lines from k on
+pub branch-end : (xs : List ℕ) (k n i : ℕ) → k ≡ n → branchHas (linesFrom xs k (n - k)) i ≡ false
+unfolding linesFrom branchHas
+branch-end xs k n i e = ap (λ (m : ℕ). branchHas (linesFrom xs k m) i) none
+  where
+    none : n - k ≡ 0
+    none = omega (arith, e)
+
+pub branch-next : (xs : List ℕ) (k n i : ℕ) → k < n
+    → branchHas (linesFrom xs k (n - k)) i ≡ (lineHas (lineAt xs k) i || branchHas (linesFrom xs (k + 1) (n - (k + 1))) i)
+unfolding linesFrom branchHas
+branch-next xs k n i h =
+    ap (λ (m : ℕ). branchHas (linesFrom xs k m) i) left
+    ∙ ap (λ (m : ℕ). lineHas (lineAt xs k) i || branchHas (linesFrom xs m (n - (k + 1))) i) (sym (add-one k))
+  where
+    left : n - k ≡ suc (n - (k + 1))
+    left = omega (arith, h)

@@ -1,0 +1,7 @@
+// What a tableau's branch is made of: document 01's lines, the tests of their parts, lines in lent
+// bytes, and names that are fresh.
+pub mod fresh;
+pub mod line;
+pub mod parts;
+pub mod stored;
+pub mod views;

@@ -1,0 +1,188 @@
+// Lines in lent bytes, eight a line.
+use crate::line::CompareLine;
+use crate::line::EdgeLine;
+use crate::line::HasLine;
+use crate::line::IsLine;
+use crate::line::Line;
+use crate::line::Side;
+use crate::line::channel_at;
+use pattern::types::Axis;
+use pattern::types::Comparison;
+use pattern::types::Name;
+use pattern::types::Sign;
+ghost use mathlib.Core.Path.{_≡_};
+ghost use Prim.Native.Nat.{_+_, _*_, _≤_};
+ghost use lib.ListN.{length};
+ghost use Rattle.lines.specs.declared.line.Line.{Line};
+ghost use Rattle.lines.specs.Lines.{lineHas};
+ghost use Rattle.lines.specs.Stored.{signNumber, signAt, comparisonNumber, comparisonAt, bytesOf, compareOf, lineAt, putLine};
+
+fn sign_number(sign: Sign) -> u8
+    ensures { λ r. ⌜ r ≡ signNumber sign ⌝ }
+{
+    match sign {
+        Sign::Positive => 0,
+        Sign::Negative => 1,
+    }
+}
+
+fn sign_at(number: u8) -> Sign
+    ensures { λ r. ⌜ r ≡ signAt number ⌝ }
+{
+    if number == 0 {
+        return Sign::Positive;
+    }
+    Sign::Negative
+}
+
+fn comparison_number(comparison: Comparison) -> u8
+    ensures { λ r. ⌜ r ≡ comparisonNumber comparison ⌝ }
+{
+    match comparison {
+        Comparison::Same => 0,
+        Comparison::Differ => 1,
+    }
+}
+
+fn comparison_at(number: u8) -> Comparison
+    ensures { λ r. ⌜ r ≡ comparisonAt number ⌝ }
+{
+    if number == 0 {
+        return Comparison::Same;
+    }
+    Comparison::Differ
+}
+
+// The byte of a comparison's form: the highest, so that a further form is one of the numbers below it.
+const COMPARISON: u8 = 255;
+
+// The eight bytes of a comparison.
+fn compare_bytes(l: CompareLine) -> [u8; 8]
+    ensures { λ r. ⌜ r ≡ bytesOf (Line.Compare l) ⌝ }
+{
+    let sign = l.sign;
+    let comparison = l.comparison;
+    let channel = l.channel;
+    let left = l.left;
+    let right = l.right;
+    [
+        COMPARISON,
+        sign_number(sign),
+        comparison_number(comparison),
+        channel.number(),
+        left.name.number,
+        left.path,
+        right.name.number,
+        right.path,
+    ]
+}
+
+// The eight bytes of a line.
+fn bytes(line: Line) -> [u8; 8]
+    ensures { λ r. ⌜ r ≡ bytesOf line ⌝ }
+{
+    match line {
+        Line::Has(l) => {
+            let sign = l.sign;
+            [0, sign_number(sign), l.name.number, l.node, 0, 0, 0, 0]
+        }
+        Line::Is(l) => {
+            let sign = l.sign;
+            [
+                1,
+                sign_number(sign),
+                l.first.number,
+                l.second.number,
+                0,
+                0,
+                0,
+                0,
+            ]
+        }
+        Line::Edge(l) => [2, l.axis.number, l.from.number, l.to.number, 0, 0, 0, 0],
+        Line::Compare(l) => compare_bytes(l),
+    }
+}
+
+// The comparison of eight bytes.
+fn compare_of(b: [u8; 8]) -> Line
+    ensures { λ r. ⌜ r ≡ compareOf b ⌝ }
+{
+    Line::Compare(CompareLine {
+        sign: sign_at(b[1]),
+        comparison: comparison_at(b[2]),
+        channel: channel_at(b[3]),
+        left: Side {
+            name: Name { number: b[4] },
+            path: b[5],
+        },
+        right: Side {
+            name: Name { number: b[6] },
+            path: b[7],
+        },
+    })
+}
+
+// The line of eight bytes.
+fn line_of(b: [u8; 8]) -> Line
+    ensures { λ r. ⌜ r ≡ lineAt b 0 ⌝ }
+{
+    match b[0] {
+        0 => Line::Has(HasLine {
+            sign: sign_at(b[1]),
+            name: Name { number: b[2] },
+            node: b[3],
+        }),
+        1 => Line::Is(IsLine {
+            sign: sign_at(b[1]),
+            first: Name { number: b[2] },
+            second: Name { number: b[3] },
+        }),
+        2 => Line::Edge(EdgeLine {
+            axis: Axis { number: b[1] },
+            from: Name { number: b[2] },
+            to: Name { number: b[3] },
+        }),
+        _ => compare_of(b),
+    }
+}
+
+// Line k of the area.
+pub fn load(area: &[u8], k: usize) -> Line
+    requires { ⌜ 8 * (k + 1) ≤ length (now area) ⌝ }
+    ensures { λ r. ⌜ r ≡ lineAt (now (area .entry)) k ⌝ }
+{
+    let at = 8 * k;
+    line_of([
+        area[at],
+        area[at + 1],
+        area[at + 2],
+        area[at + 3],
+        area[at + 4],
+        area[at + 5],
+        area[at + 6],
+        area[at + 7],
+    ])
+}
+
+// Whether line k of the area has the name. The names are at bytes 2 and 3, those of a comparison at 4 and
+// 6; a line of form 0 has one.
+pub fn line_has(area: &[u8], k: usize, name: Name) -> bool
+    requires { ⌜ 8 * (k + 1) ≤ length (now area) ⌝ }
+    ensures { λ r. ⌜ r ≡ lineHas (lineAt (now (area .entry)) k) (name .number) ⌝ }
+{
+    let at = 8 * k;
+    let n = name.number;
+    let compares = 2 < area[at];
+    let sides = (area[at + 4] == n) | (area[at + 6] == n);
+    let names = (area[at + 2] == n) | ((area[at] != 0) & (area[at + 3] == n));
+    (compares & sides) | (!compares & names)
+}
+
+// Line k of the area becomes this one.
+pub fn store(area: &mut [u8], k: usize, line: Line)
+    requires { ⌜ 8 * (k + 1) ≤ length (now area) ⌝ }
+    ensures { λ r. ⌜ now (area .exit) ≡ putLine (now (area .entry)) k line ⌝ }
+{
+    wire::put_block(area, k, bytes(line));
+}

@@ -1,0 +1,54 @@
+-- `model_file::repeats_name` meets its contract: no record passed has the name of record j.
+-- Assumes nothing.
+use borrow.Author.Needs.{needs}
+use borrow.Author.Count.{below-none, below-more}
+use Prim.Native.Nat.{ℕ, _-_, _≤_, _<_}
+use mathlib.Core.Path.{_≡_, sym, _∙_}
+use mathlib.Core.Bool.{false}
+use native.Mathlib.Omega.{arith}
+use lib.Dec.{eqb}
+use Rattle.pattern.specs.Checks.Range.{none-below, some-at}
+use Rattle.model_file.specs.Layout.{nameOf}
+use Rattle.model_file.proofs.repeats_name.Statement.{statement}
+use Rattle.model_file.proofs.repeats_name.Tie as tie
+
+abbrev Inv-loop : tie.InvT-loop
+Inv-loop d j i₀ i = (i ≤ j) × ((k : ℕ) → k < i → eqb (nameOf d k) (nameOf d j) ≡ false)
+
+abbrev μ-loop : tie.MeasureT-loop
+μ-loop d j i₀ i = j - i
+
+loop-holds : tie.Need-loop-holds Inv-loop μ-loop
+loop-holds c = (search needs, below-none _)
+
+same-name-requires : tie.Need-same-name-requires Inv-loop μ-loop
+same-name-requires c κs = search needs
+
+returns : tie.Need-returns Inv-loop μ-loop
+returns c = sym (some-at _ _ _ (c .before .before .loop-test .taken) (sym (c .before .same-name .ensures) ∙ c .if1 .taken))
+
+add-i : tie.Need-add-i Inv-loop μ-loop
+add-i c = search needs
+
+loop-less : tie.Need-loop-less Inv-loop μ-loop
+loop-less c = search needs
+
+loop-again : tie.Need-loop-again Inv-loop μ-loop
+loop-again c = (search needs, below-more _ _ (c .before .before .before .loop .inv .1) (sym (c .before .same-name .ensures) ∙ c .if1 .left))
+
+returns-2 : tie.Need-returns-2 Inv-loop μ-loop
+returns-2 c = sym (none-below _ _ (λ k h. c .before .loop .inv .1 k (omega arith)))
+
+pub repeats-name-spec : {M : Type 1} → statement M
+repeats-name-spec =
+    tie.close
+    (tie.spec
+    Inv-loop
+    μ-loop
+    loop-holds
+    same-name-requires
+    returns
+    add-i
+    loop-less
+    loop-again
+    returns-2)

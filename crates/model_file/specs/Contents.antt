@@ -1,0 +1,46 @@
+-- The finite model that a model file stands for.
+-- Assumes nothing.
+use mathlib.Core.Bool.{Bool, _&&_}
+use mathlib.Core.List.{List}
+use Prim.Native.Nat.{ℕ, _^_, _/_, _%_}
+use lib.Dec.{leb, ltb, eqb}
+use Rattle.wire.specs.Choice.{pick}
+use Rattle.nodeset.specs.Below.{lowestBelow}
+use Rattle.pattern.specs.Logic.Finite.{Finite}
+use Rattle.pattern.specs.File.Types.{maxChannel}
+use Rattle.pattern.specs.Checks.Range.{someBelow}
+use Rattle.model_file.specs.Layout.{nodeCount, nameCount, edgeCount, propertySet, valueOn, nameOf, nodeOfRecord, fromOf, axisOf, toOf}
+
+-- edge record i says that axis a leads from u to v
+abbrev pub recordLeads : List ℕ → ℕ → ℕ → ℕ → ℕ → Bool
+recordLeads ds a u v i = eqb (fromOf ds i) u && (eqb (axisOf ds i) a && eqb (toOf ds i) v)
+
+-- 01: "Edges stand in any order; a repeat counts as one.": axis a leads from u to v where some record says so
+unfoldable pub leadsIn : List ℕ → ℕ → ℕ → ℕ → Bool
+leadsIn ds a u v = someBelow (edgeCount ds) (recordLeads ds a u v)
+
+-- 01: "bit p for property p": property p is in the set of node u
+abbrev pub hasProperty : List ℕ → ℕ → ℕ → Bool
+hasProperty ds p u = eqb (propertySet ds u / 2 ^ p % 2) 1
+
+-- 01: "four data values per node", "channels 0 to 3": the value of node u on channel e; zero on any other, which no record holds
+abbrev pub valueIn : List ℕ → ℕ → ℕ → ℕ
+valueIn ds e u = pick (leb e maxChannel) (valueOn ds e u) 0
+
+-- the name record that lists name i; the count of the name records where none does
+abbrev pub recordOfName : List ℕ → ℕ → ℕ
+recordOfName ds i = lowestBelow (nameCount ds) (λ j. eqb (nameOf ds j) i)
+
+-- 01: "Names not listed name node 0.": the node of the record that lists the name, node 0 where none does
+unfoldable pub nodeNamed : List ℕ → ℕ → ℕ
+nodeNamed ds i = pick (ltb (recordOfName ds i) (nameCount ds)) (nodeOfRecord ds (recordOfName ds i)) 0
+
+-- 01: "A data model has one or more nodes, edges per axis, a property set and four data values per node, and a node for every name."
+abbrev pub modelFrom : List ℕ → Finite
+modelFrom ds = record {
+  size = nodeCount ds;
+  edge = λ a u v. leadsIn ds a u v;
+  label = λ p u. hasProperty ds p u;
+  value = λ e u. valueIn ds e u;
+  named = λ i. nodeNamed ds i;
+}

@@ -1,0 +1,113 @@
+-- `model_tables::list_names` meets its contract: the rows of the records passed are set, by `filled-more`; no two records have one name.
+-- Assumes nothing.
+use borrow.Author.Needs.{needs}
+use Prim.Native.Nat.{ℕ, _-_, _≤_, _<_}
+use mathlib.Core.Path.{_≡_, subst}
+use native.Mathlib.Omega.{arith}
+use lib.ListN.{length}
+use Rattle.model_file.specs.Layout.{nameCount, nodeOfRecord}
+use Rattle.model_tables.specs.Tables.{listed-apart, exactly-only, listedRow, Filled, filled-none, filled-more}
+use Rattle.model_tables.proofs.list_names.Statement.{statement}
+use Rattle.model_tables.proofs.list_names.Tie as tie
+
+abbrev Inv-loop : tie.InvT-loop
+Inv-loop d table₀ m j₀ table j = (j ≤ m) × (length table ≡ length table₀) × Filled (listedRow d) (λ j u. u ≡ nodeOfRecord d j) j table₀ table
+
+abbrev μ-loop : tie.MeasureT-loop
+μ-loop d table₀ m j₀ table j = m - j
+
+name-count-requires : tie.Need-name-count-requires Inv-loop μ-loop
+name-count-requires c κs = search needs
+
+loop-holds : tie.Need-loop-holds Inv-loop μ-loop
+loop-holds c =
+    let d = c .before .before .before .args .d .now in
+    (search needs, search needs, filled-none (listedRow d) (λ j u. u ≡ nodeOfRecord d j) _)
+
+name-record-requires : tie.Need-name-record-requires Inv-loop μ-loop
+name-record-requires c κs = search needs
+
+-- the record of a turn is one of those that the count gives
+counted : (c : tie.After-name-record Inv-loop μ-loop)
+    → c .before .before .loop .j < nameCount (c .before .before .before .before .before .before .args .d .now)
+counted c = rw (c .before .before .before .name-count .ensures) at (c .before .loop-test .taken)
+
+add-only : tie.Need-add-only Inv-loop μ-loop
+add-only c = search needs
+
+shared-slice-read-only : tie.Need-shared-slice-read-only Inv-loop μ-loop
+shared-slice-read-only c = search needs
+
+only-requires : tie.Need-only-requires Inv-loop μ-loop
+only-requires c κs =
+    let s = c .before .before .before .before .before .before .before in
+    let v = s .pre .0 .names (c .before .before .before .loop .j) (counted (c .before)) in
+    rw (c .before .name-record .ensures) (omega (arith, v .node-within, s .pre .0 .header .narrow))
+
+byte-requires : tie.Need-byte-requires Inv-loop μ-loop
+byte-requires c κs = search needs
+
+add-store : tie.Need-add-store Inv-loop μ-loop
+add-store c = search needs
+
+store-requires : tie.Need-store-requires Inv-loop μ-loop
+store-requires c κs =
+    let s = c .before .before .before .before .before .before .before .before .before .before in
+    let l = c .before .before .before .before .before .before .loop in
+    let v = s .pre .0 .names (l .j) (counted (c .before .before .before .before)) in
+    rw (c .byte .ensures .0, c .before .before .before .before .name-record .ensures) (omega (arith, v .name-within, l .inv .1, s .pre .1))
+
+add-j : tie.Need-add-j Inv-loop μ-loop
+add-j c = search needs
+
+loop-less : tie.Need-loop-less Inv-loop μ-loop
+loop-less c = search needs
+
+loop-again : tie.Need-loop-again Inv-loop μ-loop
+loop-again c =
+    let l = c .before .before .before .before .before .before .before .before .before .loop in
+    let r = c .before .before .before in
+    let a = c .before .before .before .before .before .before .before .before .before .before .before .before .before .args in
+    let ok = c .before .before .before .before .before .before .before .before .before .before .before .before .before .pre .0 in
+    let b = counted (r .before .before .before .before) in
+    let v = ok .names (l .j) b in
+    let n = r .before .before .before .before .name-record .ensures in (
+      search needs,
+      search needs,
+      rw (c .before .before .store .ensures, r .byte .ensures .0, n)
+          (filled-more (listedRow (a .d .now)) (λ j u. u ≡ nodeOfRecord (a .d .now) j) (l .j) _ (l .table) _ (listed-apart ok (l .j) b)
+          (omega (arith, v .name-within, l .inv .1))
+          (rw (r .before .before .only .ensures, n) (exactly-only (nodeOfRecord (a .d .now) (l .j)) (omega (arith, v .node-within, ok .header .narrow))))
+          (l .inv .2)),
+    )
+
+same-length : tie.Need-same-length Inv-loop μ-loop
+same-length c = search needs
+
+returns : tie.Need-returns Inv-loop μ-loop
+returns c =
+    let l = c .before .loop in
+    let a = c .before .before .before .before .before .args in
+    let d = a .d .now in
+    subst (λ (k : ℕ). Filled (listedRow d) (λ j u. u ≡ nodeOfRecord d j) k (a .table .now) (l .table)) (omega arith) (l .inv .2)
+
+pub list-names-spec : {M : Type 1} → statement M
+list-names-spec =
+    tie.close
+    (tie.spec
+    Inv-loop
+    μ-loop
+    name-count-requires
+    loop-holds
+    name-record-requires
+    add-only
+    shared-slice-read-only
+    only-requires
+    byte-requires
+    add-store
+    store-requires
+    add-j
+    loop-less
+    loop-again
+    same-length
+    returns)

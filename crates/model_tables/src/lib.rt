@@ -1,0 +1,202 @@
+// From the bytes of a model file that passed its checks to the tables of node sets that evaluation
+// reads.
+use evaluation::rows::NAMES;
+use evaluation::rows::NODES;
+use evaluation::rows::PROPERTIES;
+use evaluation::rows::row_of;
+use model_file::byte;
+use model_file::edge_count;
+use model_file::edge_record;
+use model_file::name_count;
+use model_file::name_record;
+use model_file::node_count;
+use model_file::node_record;
+use nodeset::NodeSet;
+use pattern::types::Channel;
+use pattern::types::Name;
+use pattern::types::Property;
+ghost use mathlib.Core.Path.{_≡_};
+ghost use mathlib.Core.Bool.{true, false};
+ghost use Prim.Native.Nat.{ℕ, _+_, _≤_, _<_};
+ghost use lib.ListN.{length};
+ghost use Rattle.nodeset.specs.Set.{has};
+ghost use Rattle.nodeset.specs.Stored.{tableBytes, setAt};
+ghost use Rattle.pattern.specs.File.Types.{maxProperty, maxChannel};
+ghost use Rattle.evaluation.specs.Tables.{propertyRow, modelRows, alikeRow, alikeRows, IsSet, Tabled, Alike};
+ghost use Rattle.model_file.specs.Layout.{nodeCount, edgeCount, nodeRecord, valueOn};
+ghost use Rattle.model_file.specs.Contents.{hasProperty, modelFrom};
+ghost use Rattle.model_file.specs.Valid.{ValidModel};
+ghost use Rattle.model_tables.specs.Tables.{WithProperty, AlikeTo, linkOf, Filled, NamesAtZero, NamesListed, Linked};
+
+// Whether property p is in the property set of node u.
+fn has_property(d: &[u8], p: u8, u: u8) -> bool
+    requires { ⌜ nodeRecord u + 4 ≤ length (now d) ⌝ }
+    requires { ⌜ p ≤ maxProperty ⌝ }
+    ensures { λ r. ⌜ r ≡ hasProperty (now (d .entry)) p u ⌝ }
+{
+    let at = node_record(u);
+    let set = byte(d, at)
+        + byte(d, at + 1) * 256
+        + byte(d, at + 2) * 65536
+        + byte(d, at + 3) * 16777216;
+    (set >> p) % 2 == 1
+}
+
+// The nodes that have property p.
+fn property_set(d: &[u8], p: u8) -> NodeSet
+    requires { ⌜ ValidModel (now d) ⌝ }
+    requires { ⌜ p ≤ maxProperty ⌝ }
+    ensures { λ r. ⌜ IsSet (modelFrom (now (d .entry))) (λ u. hasProperty (now (d .entry)) p (u .0) ≡ true) r ⌝ }
+{
+    let n = node_count(d);
+    let mut set = NodeSet::empty();
+    let mut u = 0;
+    while u < n {
+        set = set.insert_if(u, has_property(d, p, u));
+        u += 1;
+    }
+    set
+}
+
+// The row of each property gets the nodes that have it.
+fn fill_properties(d: &[u8], table: &mut [u8])
+    requires { ⌜ ValidModel (now d) ⌝ }
+    requires { ⌜ tableBytes modelRows ≤ length (now table) ⌝ }
+    ensures { λ r. ⌜ Filled propertyRow (WithProperty (now (d .entry))) (maxProperty + 1) (now (table .entry)) (now (table .exit)) ⌝ }
+{
+    let mut p = 0;
+    while p <= Property::MAX {
+        let set = property_set(d, p);
+        set.store(table, PROPERTIES + (p as usize));
+        p += 1;
+    }
+}
+
+// The row of each name gets node 0.
+fn fill_names(table: &mut [u8])
+    requires { ⌜ tableBytes modelRows ≤ length (now table) ⌝ }
+    ensures { λ r. ⌜ NamesAtZero (now (table .entry)) (now (table .exit)) ⌝ }
+{
+    let mut i = 0;
+    while i <= Name::MAX {
+        let set = NodeSet::only(0);
+        set.store(table, NAMES + (i as usize));
+        i += 1;
+    }
+}
+
+// The row of each listed name gets the node of its record.
+fn list_names(d: &[u8], table: &mut [u8])
+    requires { ⌜ ValidModel (now d) ⌝ }
+    requires { ⌜ tableBytes modelRows ≤ length (now table) ⌝ }
+    ensures { λ r. ⌜ NamesListed (now (d .entry)) (now (table .entry)) (now (table .exit)) ⌝ }
+{
+    let m = name_count(d);
+    let mut j = 0;
+    while j < m {
+        let at = name_record(d, j);
+        let set = NodeSet::only(d[at + 1]);
+        set.store(table, NAMES + byte(d, at));
+        j += 1;
+    }
+}
+
+// The row of edge record i, that of its axis and of the node it leads from, gets the node it leads to.
+fn add_edge(d: &[u8], table: &mut [u8], i: u16)
+    requires { ⌜ ValidModel (now d) ⌝ }
+    requires { ⌜ tableBytes modelRows ≤ length (now table) ⌝ }
+    requires { ⌜ i < edgeCount (now d) ⌝ }
+    ensures { λ r. ⌜ now (table .exit) ≡ linkOf (now (d .entry)) i (now (table .entry)) ⌝ }
+{
+    let at = edge_record(d, i);
+    let axis = d[at + 1];
+    let row = row_of(axis, d[at]);
+    let set = NodeSet::load(table, row);
+    let grown = set.insert(d[at + 2]);
+    grown.store(table, row);
+}
+
+// The rows of the successors get the edges.
+fn fill_successors(d: &[u8], table: &mut [u8])
+    requires { ⌜ ValidModel (now d) ⌝ }
+    requires { ⌜ tableBytes modelRows ≤ length (now table) ⌝ }
+    requires { ⌜ ((i u : ℕ) → has (setAt (now table) i) u ≡ false) ⌝ }
+    ensures { λ r. ⌜ Linked (now (d .entry)) (edgeCount (now (d .entry))) (now (table .entry)) (now (table .exit)) ⌝ }
+{
+    let k = edge_count(d);
+    let mut i = 0;
+    while i < k {
+        add_edge(d, table, i);
+        i += 1;
+    }
+}
+
+// The value of node u on channel e.
+fn value_on(d: &[u8], e: u8, u: u8) -> u16
+    requires { ⌜ nodeRecord u + 12 ≤ length (now d) ⌝ }
+    requires { ⌜ e ≤ maxChannel ⌝ }
+    ensures { λ r. ⌜ r ≡ valueOn (now (d .entry)) e u ⌝ }
+{
+    wire::word(d, node_record(u) + 4 + 2 * (e as usize))
+}
+
+// The nodes whose value on channel e is that of node u.
+fn alike_row(d: &[u8], e: u8, u: u8) -> NodeSet
+    requires { ⌜ ValidModel (now d) ⌝ }
+    requires { ⌜ (e ≤ maxChannel) × (u < nodeCount (now d)) ⌝ }
+    ensures { λ r. ⌜ IsSet (modelFrom (now (d .entry))) (λ v. valueOn (now (d .entry)) e u ≡ valueOn (now (d .entry)) e (v .0)) r ⌝ }
+{
+    let n = node_count(d);
+    let value = value_on(d, e, u);
+    let mut set = NodeSet::empty();
+    let mut v = 0;
+    while v < n {
+        set = set.insert_if(v, value == value_on(d, e, v));
+        v += 1;
+    }
+    set
+}
+
+// The row of each node on channel e gets the nodes of the same value.
+fn fill_channel(d: &[u8], e: u8, alike: &mut [u8])
+    requires { ⌜ ValidModel (now d) ⌝ }
+    requires { ⌜ e ≤ maxChannel ⌝ }
+    requires { ⌜ tableBytes alikeRows ≤ length (now alike) ⌝ }
+    ensures { λ r. ⌜ Filled (alikeRow e) (AlikeTo (now (d .entry)) e) (nodeCount (now (d .entry))) (now (alike .entry)) (now (alike .exit)) ⌝ }
+{
+    let n = node_count(d);
+    let mut u = 0;
+    while u < n {
+        let set = alike_row(d, e, u);
+        set.store(alike, row_of(e, u));
+        u += 1;
+    }
+}
+
+// The table of the model that a file gives; it is empty before.
+pub fn tabulate(d: &[u8], table: &mut [u8])
+    requires { ⌜ ValidModel (now d) ⌝ }
+    requires { ⌜ tableBytes modelRows ≤ length (now table) ⌝ }
+    requires { ⌜ ((i u : ℕ) → has (setAt (now table) i) u ≡ false) ⌝ }
+    ensures { λ r. ⌜ Tabled (modelFrom (now (d .entry))) (now (table .exit)) ⌝ }
+{
+    fill_successors(d, table);
+    fill_properties(d, table);
+    fill_names(table);
+    list_names(d, table);
+    let set = NodeSet::below(node_count(d));
+    set.store(table, NODES);
+}
+
+// The table of the values of the model that a file gives.
+pub fn tabulate_values(d: &[u8], alike: &mut [u8])
+    requires { ⌜ ValidModel (now d) ⌝ }
+    requires { ⌜ tableBytes alikeRows ≤ length (now alike) ⌝ }
+    ensures { λ r. ⌜ Alike (modelFrom (now (d .entry))) (now (alike .exit)) ⌝ }
+{
+    let mut e = 0;
+    while e <= Channel::MAX {
+        fill_channel(d, e, alike);
+        e += 1;
+    }
+}

@@ -1,0 +1,47 @@
+-- `tableau_judge::judge::judge` meets its contract: a pattern that is refused is so first.
+-- Assumes nothing.
+use borrow.Author.Needs.{needs}
+use mathlib.Core.Path.{refl, sym, _∙_, ap}
+use lib.ListN.{length}
+use Rattle.pattern.specs.File.Reading.{findingOf}
+use Rattle.tableau_judge.specs.JudgeLaws.{judging-pattern, pattern-early}
+use Rattle.tableau_judge.proofs.judge.judge.Statement.{statement}
+use Rattle.tableau_judge.proofs.judge.judge.Tie as tie
+
+read-requires : tie.Need-read-requires
+read-requires c κs = search needs
+
+enum-known-refusal : tie.Need-enum-known-refusal
+enum-known-refusal c = search needs
+
+enum-known-n : tie.Need-enum-known-n
+enum-known-n c = search needs
+
+judge-read-requires : tie.Need-judge-read-requires
+judge-read-requires c κs = sym (c .before .before .before .before .read .ensures) ∙ ap findingOf (c .before .before .n .given .1)
+
+returns : tie.Need-returns
+returns c =
+    let r = c .before .before .before in
+    let a = r .before .before .before .before .args in (
+      sym (judging-pattern (a .p .now) (a .t .now) (length (a .area .now)) _ _ (sym (r .read .ensures) ∙ ap findingOf (c .before .refusal .given .1))),
+      rw (pattern-early (c .before .refusal .given .0 .0)) refl,
+    )
+
+same-length : tie.Need-same-length
+same-length c = search needs
+
+returns-2 : tie.Need-returns-2
+returns-2 c = search needs
+
+pub judge-spec : {M : Type 1} → statement M
+judge-spec =
+    tie.close
+    (tie.spec
+    read-requires
+    enum-known-refusal
+    enum-known-n
+    judge-read-requires
+    returns
+    same-length
+    returns-2)
