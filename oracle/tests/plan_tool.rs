@@ -149,6 +149,20 @@ fn pattern_is_no_target() {
     assert_eq!(directory.names(), ["link.bin", "pattern.bin", "twin.bin"]);
 }
 
+#[test]
+fn replaced_file_keeps_its_permissions() {
+    let directory = Directory::new("kept");
+    let pattern = directory.file("pattern.bin", &common::pattern(&ENTRIES_A));
+    for mode in [0o600, 0o640, 0o664, 0o755] {
+        let proposal = directory.file("proposal.bin", b"old");
+        fs::set_permissions(&proposal, Permissions::from_mode(mode)).expect("new permissions");
+        assert!(run(&[], &[&pattern, &proposal]).status.success());
+        assert!(fs::read(&proposal).expect("a proposal").starts_with(b"TAB"));
+        let kept = fs::metadata(&proposal).expect("a proposal").permissions().mode();
+        assert_eq!(kept & 0o7777, mode);
+    }
+}
+
 /// The superuser may write any file, whatever its permissions say.
 #[test]
 fn file_that_may_not_be_written_is_left_alone() {

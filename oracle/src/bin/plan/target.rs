@@ -24,14 +24,26 @@ pub fn find(proposal: &Path, pattern: &Path) -> io::Result<PathBuf> {
     Ok(target)
 }
 
-/// Writes a new file beside the target and puts it in the target's place when it is whole.
+/// Writes a new file beside the target and puts it in the target's place when it is whole. A file that was
+/// there before leaves it its permissions.
 pub fn replace(target: &Path, bytes: &[u8]) -> io::Result<()> {
     let mut beside = target.as_os_str().to_owned();
     beside.push(format!(".{}.new", std::process::id()));
-    let mut file = fs::File::create_new(&beside)?;
-    let result = file.write_all(bytes).and_then(|()| fs::rename(&beside, target));
+    let file = fs::File::create_new(&beside)?;
+    let result = fill(file, bytes, target).and_then(|()| fs::rename(&beside, target));
     if result.is_err() {
         let _ = fs::remove_file(&beside);
     }
     result
+}
+
+/// Gives the new file the permissions of the old one, before it has a byte that others might read, and then the
+/// bytes.
+fn fill(mut new: fs::File, bytes: &[u8], old: &Path) -> io::Result<()> {
+    match fs::metadata(old) {
+        Ok(old) => new.set_permissions(old.permissions())?,
+        Err(error) if error.kind() == ErrorKind::NotFound => {}
+        Err(error) => return Err(error),
+    }
+    new.write_all(bytes)
 }
