@@ -8,7 +8,6 @@ use lib.Dec.{leb, ltb, eqb}
 use Rattle.wire.specs.Fields.{beginsWith, wordAt}
 use Rattle.pattern.specs.declared.table.Sort.{Sort}
 use Rattle.pattern.specs.declared.table.Field.{Field}
-use Rattle.pattern.specs.declared.finding.FieldTest.{FieldTest}
 use Rattle.pattern.specs.declared.finding.PatternRefusal.{PatternRefusal}
 use Rattle.pattern.specs.declared.finding.PatternCheck.{PatternCheck}
 use Rattle.pattern.specs.declared.finding.PatternRead.{PatternRead}
@@ -73,11 +72,6 @@ refersBack bs k Field.Channel v = true
 refersBack bs k Field.Node v = isNode (earlierSort bs k v)
 refersBack bs k Field.Path v = eqb v endOfPath || isPath (earlierSort bs k v)
 
--- the two tests that the fields of entry k are put to
-abbrev pub fieldTest : List ℕ → ℕ → FieldTest → Field → ℕ → Bool
-fieldTest bs k FieldTest.Range F v = inRange F v
-fieldTest bs k FieldTest.Reference F v = refersBack bs k F v
-
 -- "equal to an earlier entry"
 abbrev pub repeatsAt : List ℕ → ℕ → Bool
 repeatsAt bs k = someBelow k (λ j. sameBytes bs j k)
@@ -88,11 +82,11 @@ kindCheck bs k = refusesIf (isNeither (sortAt bs k)) 4 k
 
 -- "5, a field out of range or an unused one not zero;"
 abbrev pub fieldCheck : List ℕ → ℕ → Check
-fieldCheck bs k = refusesIf (not (eachField (fieldTest bs k FieldTest.Range) (entryAt bs k))) 5 k
+fieldCheck bs k = refusesIf (not (eachField inRange (entryAt bs k))) 5 k
 
 -- "6, a reference that isn't an earlier entry of the wanted sort (path end excepted);"
 abbrev pub referenceCheck : List ℕ → ℕ → Check
-referenceCheck bs k = refusesIf (not (eachField (fieldTest bs k FieldTest.Reference) (entryAt bs k))) 6 k
+referenceCheck bs k = refusesIf (not (eachField (refersBack bs k) (entryAt bs k))) 6 k
 
 -- "7, equal to an earlier entry."
 abbrev pub repeatCheck : List ℕ → ℕ → Check

@@ -17,7 +17,7 @@ use Rattle.pattern.specs.File.Fields.{OfReferences, map-references}
 use Rattle.pattern.specs.File.Entries.{entryAt}
 use Rattle.pattern.specs.File.Reading.{sortAt}
 use Rattle.pattern.specs.File.Valid.{Valid, EarlierPath}
-use Rattle.pattern.specs.Meaning.Expression.{end, nodeOf, pathOf, nodeAt, pathAt, node-at, path-at, end-at}
+use Rattle.pattern.specs.Meaning.Expression.{end, nodeExpression, pathExpression, nodeAt, pathAt, node-at, path-at, end-at}
 use Rattle.pattern.specs.Meaning.Clauses.{NodeMeans, PathMeans, Meaning}
 
 module _ (M : Model) (nom : Naming M) where
@@ -36,7 +36,7 @@ module _ (M : Model) (nom : Naming M) where
     LeadsBy k u v = Leads M nom (P k) u v
 
     node-agrees : (κ : Kind) → sortOf κ ≡ Sort.Node → (u : M .Node)
-        → Holds M nom (nodeOf κ x y z N P) u ↔ NodeMeans M nom HoldsBy LeadsBy κ x y z u
+        → Holds M nom (nodeExpression κ x y z N P) u ↔ NodeMeans M nom HoldsBy LeadsBy κ x y z u
     node-agrees Kind.Property s u = Iff·rfl
     node-agrees Kind.Name s u = Iff·rfl
     node-agrees Kind.Not s u = Iff·rfl
@@ -51,7 +51,7 @@ module _ (M : Model) (nom : Naming M) where
     node-agrees Kind.Unknown s u = absurd (neither-no-node s)
 
     path-agrees : (κ : Kind) → sortOf κ ≡ Sort.Path → (u v : M .Node)
-        → Leads M nom (pathOf κ x y z N P) u v ↔ PathMeans M nom HoldsBy LeadsBy κ x y z u v
+        → Leads M nom (pathExpression κ x y z N P) u v ↔ PathMeans M nom HoldsBy LeadsBy κ x y z u v
     path-agrees Kind.Property s u v = absurd (path-no-node (sym s))
     path-agrees Kind.Name s u v = absurd (path-no-node (sym s))
     path-agrees Kind.Not s u v = absurd (path-no-node (sym s))

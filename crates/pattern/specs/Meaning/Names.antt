@@ -21,7 +21,7 @@ use Rattle.pattern.specs.File.Fields.{OfReferences, map-references}
 use Rattle.pattern.specs.File.Types.{maxName}
 use Rattle.pattern.specs.File.Table.{endOfPath, formOf}
 use Rattle.pattern.specs.File.Valid.{Valid, Within, EarlierPath}
-use Rattle.pattern.specs.Meaning.Expression.{nodeOf, pathOf, nodeAt, pathAt, node-at, path-at, end-at}
+use Rattle.pattern.specs.Meaning.Expression.{nodeExpression, pathExpression, nodeAt, pathAt, node-at, path-at, end-at}
 
 -- an entry of this kind with x for its first field has the name
 abbrev pub hasName : Kind → ℕ → ℕ → Bool
@@ -49,7 +49,7 @@ usesName bs i = someBelow (countOf bs) (entryUses bs i)
 module _ (Q : ℕ → Type 0) (N : ℕ → NExp) (P : ℕ → PExp) (x y z : ℕ) where
   -- the names of an entry's expression are its own and those of its references
   node-names : (κ : Kind) → ((i : ℕ) → hasName κ x i ≡ true → Q i)
-      → OfReferences (λ v. OfNames Q (N v)) (λ v. OfNamesP Q (P v)) (record { kind = κ; x = x; y = y; z = z }) → OfNames Q (nodeOf κ x y z N P)
+      → OfReferences (λ v. OfNames Q (N v)) (λ v. OfNamesP Q (P v)) (record { kind = κ; x = x; y = y; z = z }) → OfNames Q (nodeExpression κ x y z N P)
   node-names Kind.Property own r = tt
   node-names Kind.Name own r = own x (eq-eqb x x refl)
   node-names Kind.Not own r = r .0
@@ -64,7 +64,7 @@ module _ (Q : ℕ → Type 0) (N : ℕ → NExp) (P : ℕ → PExp) (x y z : ℕ
   node-names Kind.Unknown own r = (tt, tt)
 
   path-names : (κ : Kind) → ((i : ℕ) → hasName κ x i ≡ true → Q i)
-      → OfReferences (λ v. OfNames Q (N v)) (λ v. OfNamesP Q (P v)) (record { kind = κ; x = x; y = y; z = z }) → OfNamesP Q (pathOf κ x y z N P)
+      → OfReferences (λ v. OfNames Q (N v)) (λ v. OfNamesP Q (P v)) (record { kind = κ; x = x; y = y; z = z }) → OfNamesP Q (pathExpression κ x y z N P)
   path-names Kind.Property own r = (tt, tt)
   path-names Kind.Name own r = (tt, tt)
   path-names Kind.Not own r = (tt, tt)
