@@ -34,6 +34,8 @@ setAt xs i = record { bits = word64At xs (tableBytes i) }
 unfoldable pub put : List ℕ → ℕ → NodeSet → List ℕ
 put xs i s = putFrom xs (tableBytes i) 0 (bytesOf (s .bits))
 
+-- ---- laws
+
 -- ---- a number, stored and read
 
 -- the eight bytes of a number make its rest by 2 ^ 64

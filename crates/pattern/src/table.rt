@@ -100,20 +100,14 @@ impl Kind {
     pub fn sort(self) -> Sort
         ensures { λ r. ⌜ r ≡ sortOf self ⌝ }
     {
-        match self {
-            Kind::Property => Sort::Node,
-            Kind::Name => Sort::Node,
-            Kind::Not => Sort::Node,
-            Kind::Both => Sort::Node,
-            Kind::After => Sort::Node,
-            Kind::Same => Sort::Node,
-            Kind::Differ => Sort::Node,
-            Kind::Step => Sort::Path,
-            Kind::Jump => Sort::Path,
-            Kind::Test => Sort::Path,
-            Kind::Fork => Sort::Path,
-            Kind::Unknown => Sort::Neither,
+        let number = self.number();
+        if number < 1 {
+            return Sort::Neither;
         }
+        if number < 8 {
+            return Sort::Node;
+        }
+        Sort::Path
     }
 
     pub fn form(self) -> Form

@@ -1,10 +1,11 @@
 -- Reading a pattern: 01's refusals 1 to 8, in its order, as an executable definition.
 -- Assumes nothing.
-use mathlib.Core.Bool.{Bool, true, false, not, _||_}
+use mathlib.Core.Bool.{Bool, true, not, _||_}
 use mathlib.Core.List.{List, [], _∷_}
 use Prim.Native.Nat.{ℕ, _+_, _-_, _*_}
 use lib.ListN.{length, getD}
 use lib.Dec.{leb, ltb, eqb}
+use Rattle.wire.specs.Choice.{pick}
 use Rattle.wire.specs.Fields.{beginsWith, wordAt}
 use Rattle.pattern.specs.declared.table.Sort.{Sort}
 use Rattle.pattern.specs.declared.table.Field.{Field}
@@ -51,16 +52,12 @@ inRange Field.Channel v = leb v maxChannel
 inRange Field.Node v = true
 inRange Field.Path v = true
 
-abbrev pub sortIf : Bool → Sort → Sort
-sortIf true s = s
-sortIf false s = Sort.Neither
-
 abbrev pub sortAt : List ℕ → ℕ → Sort
 sortAt bs k = sortOf (entryAt bs k .kind)
 
 -- the sort of an entry before k; there is none at or after k
 abbrev pub earlierSort : List ℕ → ℕ → ℕ → Sort
-earlierSort bs k v = sortIf (ltb v k) (sortAt bs v)
+earlierSort bs k v = pick (ltb v k) (sortAt bs v) Sort.Neither
 
 -- a field of entry k, if it is a reference, is "an earlier entry of the wanted sort (path end excepted)"
 abbrev pub refersBack : List ℕ → ℕ → Field → ℕ → Bool

@@ -16,7 +16,7 @@ use Rattle.pattern.specs.File.Table.{endOfPath}
 use Rattle.pattern.specs.File.Entries.{entryAt}
 use Rattle.pattern.specs.File.Fields.{OfReferences, map-references}
 use Rattle.pattern.specs.File.Reading.{countOf}
-use Rattle.pattern.specs.File.Valid.{Valid, EarlierNode, EarlierPath}
+use Rattle.pattern.specs.File.Valid.{Valid, EarlierNode, EarlierPath, refers-at}
 
 -- End of path. 000 has no empty path; [⊤], which leads from each node to itself alone, stands for it.
 abbrev pub end : PExp
@@ -85,6 +85,8 @@ pathAt bs v = orEnd (eqb v endOfPath) (pathWithin bs (suc v) v)
 abbrev pub rootOf : List ℕ → NExp
 rootOf bs = nodeAt bs (countOf bs - 1)
 
+-- ---- laws
+
 module _ (N N′ : ℕ → NExp) (P P′ : ℕ → PExp) (x y z : ℕ) where
   -- an expression is made of those of its references alone
   node-same : (κ : Kind) → OfReferences (λ v. N v ≡ N′ v) (λ v. P v ≡ P′ v) (record { kind = κ; x = x; y = y; z = z })
@@ -125,7 +127,7 @@ module _ {bs : List ℕ} {n : ℕ} (ok : Valid bs n) where
   -- what agrees on the entries before k agrees on the references of entry k
   agree : (N N′ : ℕ → NExp) (P P′ : ℕ → PExp) (k : ℕ) → k < n → ((v : ℕ) → v < k → (N v ≡ N′ v) × (P v ≡ P′ v))
       → OfReferences (λ v. N v ≡ N′ v) (Agree P P′) (entryAt bs k)
-  agree N N′ P P′ k l same = map-references node path (entryAt bs k) (ok .entries k l .refers)
+  agree N N′ P P′ k l same = map-references node path (entryAt bs k) (refers-at ok k l)
     where
       node : (v : ℕ) → EarlierNode bs k v → N v ≡ N′ v
       node v h = same v (h .0) .0
