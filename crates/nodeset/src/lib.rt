@@ -1,7 +1,7 @@
 // Sets of nodes. Only this crate knows how a set is made of bits.
 ghost use mathlib.Core.Path.{_≡_};
 ghost use mathlib.Core.Bool.{false};
-ghost use Prim.Native.Nat.{_+_, _≤_, _<_};
+ghost use Prim.Native.Nat.{_+_, _%_, _≤_, _<_};
 ghost use lib.ListN.{length};
 ghost use Rattle.nodeset.specs.Set.{width, has, lowestOf, sizeOf, isEmpty, emptySet, below, only, insert, insertIf, union, meet, minus, butLowest};
 ghost use Rattle.nodeset.specs.Stored.{tableBytes, bytesOf, setAt, put};
@@ -151,14 +151,21 @@ impl NodeSet {
     {
         let bits = self.bits;
         [
-            (bits % 256) as u8,
-            (bits / 256 % 256) as u8,
-            (bits / 65536 % 256) as u8,
-            (bits / 16777216 % 256) as u8,
-            (bits / 4294967296 % 256) as u8,
-            (bits / 1099511627776 % 256) as u8,
-            (bits / 281474976710656 % 256) as u8,
-            (bits / 72057594037927936 % 256) as u8,
+            low(bits),
+            low(bits / 256),
+            low(bits / 65536),
+            low(bits / 16777216),
+            low(bits / 4294967296),
+            low(bits / 1099511627776),
+            low(bits / 281474976710656),
+            low(bits / 72057594037927936),
         ]
     }
+}
+
+// The lowest byte of a number.
+fn low(number: u64) -> u8
+    ensures { λ r. ⌜ r ≡ number % 256 ⌝ }
+{
+    (number % 256) as u8
 }
