@@ -48,11 +48,6 @@ impl PatternRefusal {
     }
 }
 
-pub enum PatternCheck {
-    Passed,
-    Refused(PatternRefusal),
-}
-
 // What reading a pattern finds: its number of entries, or the first refusal.
 pub enum PatternRead {
     Read(u8),

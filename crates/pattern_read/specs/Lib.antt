@@ -1,1 +1,1 @@
-pub mod FieldTests
+pub mod Enums

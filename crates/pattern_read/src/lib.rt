@@ -2,7 +2,6 @@
 // entries, or the first refusal that applies: each check answers that it passed or the refusal.
 use pattern::entry::Entry;
 use pattern::entry::sort_at;
-use pattern::finding::PatternCheck;
 use pattern::finding::PatternRead;
 use pattern::finding::PatternRefusal;
 use pattern::table::END;
@@ -23,14 +22,19 @@ ghost use Rattle.wire.specs.Fields.{word32At};
 ghost use Rattle.pattern.specs.Checks.Range.{eachBelow};
 ghost use Rattle.pattern.specs.File.Fields.{eachField};
 ghost use Rattle.pattern.specs.File.Entries.{offset, HasEntry, sameBytes};
-ghost use Rattle.pattern.specs.File.Reading.{inRange, earlierSort, refersBack, repeatsAt, headerCheck, entryCheck, readingOf, checkOf, findingOf};
-ghost use Rattle.pattern_read.specs.FieldTests.{fieldTest};
+ghost use Rattle.pattern.specs.File.Reading.{inRange, earlierSort, refersBack, repeatsAt, headerCheck, entryCheck, readingOf, findingOf};
+ghost use Rattle.pattern_read.specs.Enums.{fieldTest, checkOf};
 
 // The tests that a field is put to: that its value is in range, for refusal 5, and that a reference
 // goes back to an entry of its sort, for 6.
 enum FieldTest {
     Range,
     Reference,
+}
+
+enum PatternCheck {
+    Passed,
+    Refused(PatternRefusal),
 }
 
 // Whether the value of a field is in the range of what the field holds.

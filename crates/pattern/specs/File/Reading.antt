@@ -10,10 +10,9 @@ use Rattle.wire.specs.Fields.{beginsWith, wordAt}
 use Rattle.pattern.specs.declared.table.Sort.{Sort}
 use Rattle.pattern.specs.declared.table.Field.{Field}
 use Rattle.pattern.specs.declared.finding.PatternRefusal.{PatternRefusal}
-use Rattle.pattern.specs.declared.finding.PatternCheck.{PatternCheck}
 use Rattle.pattern.specs.declared.finding.PatternRead.{PatternRead}
 use Rattle.pattern.specs.File.Types.{maxName, maxProperty, maxAxis, maxChannel}
-use Rattle.pattern.specs.Checks.Finding.{Finding, found, refused, Check, passes, refuses, refusesIf, _then_, unless}
+use Rattle.pattern.specs.Checks.Finding.{Finding, found, refused, Check, refusesIf, _then_, unless}
 use Rattle.pattern.specs.Checks.Range.{someBelow, eachBelow}
 use Rattle.pattern.specs.File.Table.{endOfPath, sortOf, isNeither, isNode, isPath}
 use Rattle.pattern.specs.File.Fields.{eachField}
@@ -124,11 +123,6 @@ placeOf (PatternRefusal.Field k) = k
 placeOf (PatternRefusal.Reference k) = k
 placeOf (PatternRefusal.Repeat k) = k
 placeOf (PatternRefusal.RootPath k) = k
-
--- the outcome of a check of a pattern
-abbrev pub checkOf : PatternCheck → Check
-checkOf PatternCheck.Passed = passes
-checkOf (PatternCheck.Refused refusal) = refuses (numberOf refusal) (placeOf refusal)
 
 -- the finding of reading
 abbrev pub findingOf : PatternRead → Finding ℕ
