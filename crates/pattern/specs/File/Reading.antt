@@ -104,25 +104,21 @@ unfoldable pub readingOf : List ℕ → Finding ℕ
 readingOf bs = unless (patternCheck bs) (countOf bs)
 
 -- 01's number and place of each refusal of reading
+abbrev pub refusalOf : PatternRefusal → ℕ × ℕ
+refusalOf PatternRefusal.Mark = (1, 0)
+refusalOf PatternRefusal.Version = (2, 0)
+refusalOf PatternRefusal.Count = (3, 0)
+refusalOf (PatternRefusal.Kind k) = (4, k)
+refusalOf (PatternRefusal.Field k) = (5, k)
+refusalOf (PatternRefusal.Reference k) = (6, k)
+refusalOf (PatternRefusal.Repeat k) = (7, k)
+refusalOf (PatternRefusal.RootPath k) = (8, k)
+
 abbrev pub numberOf : PatternRefusal → ℕ
-numberOf PatternRefusal.Mark = 1
-numberOf PatternRefusal.Version = 2
-numberOf PatternRefusal.Count = 3
-numberOf (PatternRefusal.Kind k) = 4
-numberOf (PatternRefusal.Field k) = 5
-numberOf (PatternRefusal.Reference k) = 6
-numberOf (PatternRefusal.Repeat k) = 7
-numberOf (PatternRefusal.RootPath k) = 8
+numberOf refusal = refusalOf refusal .0
 
 abbrev pub placeOf : PatternRefusal → ℕ
-placeOf PatternRefusal.Mark = 0
-placeOf PatternRefusal.Version = 0
-placeOf PatternRefusal.Count = 0
-placeOf (PatternRefusal.Kind k) = k
-placeOf (PatternRefusal.Field k) = k
-placeOf (PatternRefusal.Reference k) = k
-placeOf (PatternRefusal.Repeat k) = k
-placeOf (PatternRefusal.RootPath k) = k
+placeOf refusal = refusalOf refusal .1
 
 -- the finding of reading
 abbrev pub findingOf : PatternRead → Finding ℕ

@@ -1,4 +1,4 @@
--- A valid pattern file, put declaratively: it is what reading accepts, and what later work knows of a pattern that was read.
+-- A valid pattern file, as facts: it is what reading accepts, and what later work knows of a pattern that was read.
 -- Assumes nothing.
 use mathlib.Core.Path.{_≡_, refl, sym, _∙_, ap, subst}
 use mathlib.Core.Bool.{Bool, true, false, not, _||_, or-true}

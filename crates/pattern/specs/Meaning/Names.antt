@@ -22,7 +22,7 @@ use Rattle.pattern.specs.File.Table.{endOfPath, sameKind}
 use Rattle.pattern.specs.File.Valid.{Valid, EarlierPath, refers-at}
 use Rattle.pattern.specs.Meaning.Expression.{nodeExpression, pathExpression, nodeAt, pathAt, node-at, path-at, end-at}
 
--- an entry of this kind with x for its first field has the name
+-- an entry of this kind with x for its first field has the name: it is "of kind 2 or 9", and x is the name
 abbrev pub hasName : Kind → ℕ → ℕ → Bool
 hasName κ x i = (sameKind κ Kind.Name || sameKind κ Kind.Jump) && eqb x i
 
