@@ -1,7 +1,7 @@
 -- `pattern_read::check_entry` meets its contract: each test is a check of `entryCheck`, asked in its order. What each test that was passed
 -- shows is said once, at the place behind it.
 -- Assumes nothing.
-use mathlib.Core.Path.{_≡_, sym, ap, _∙_}
+use mathlib.Core.Path.{_≡_, refl, sym, ap, _∙_}
 use mathlib.Core.Bool.{Bool, true, false}
 use borrow.Author.Needs.{needs}
 use borrow.Author.Tests.{not-true, not-false}
@@ -47,7 +47,7 @@ returns-2 : tie.Need-returns-2
 unfolding entryCheck
 returns-2 c =
     let f = c .before in
-    rw (sort-asked (f .before .before) false (f .before .if1 .left), range-asked f false (not-true _ (c .if2 .taken)))
+    rw (sort-asked (f .before .before) false (f .before .if1 .left), range-asked f false (not-true _ (c .if2 .taken))) refl
 
 fields-pass-requires-2 : tie.Need-fields-pass-requires-2
 fields-pass-requires-2 c κs = search needs

@@ -1,7 +1,7 @@
 -- `pattern_read::read` meets its contract: the checks are those of `patternCheck`, in its order. What each check that passed shows is said
 -- once, at the place behind it.
 -- Assumes nothing.
-use mathlib.Core.Path.{_≡_, sym, ap, _∙_}
+use mathlib.Core.Path.{_≡_, refl, sym, ap, _∙_}
 use native.Mathlib.Omega.{arith}
 use borrow.Author.Needs.{needs}
 use Rattle.pattern.specs.Checks.Finding.{passes}
@@ -73,7 +73,7 @@ returns-3 c =
       header-passed (e .before .before .before .before),
       entries-passed e,
       asked isPath (c .before .before .sort-at .ensures) (c .before .is-path .ensures) (c .if1 .taken),
-    )
+    ) refl
 
 returns-4 : tie.Need-returns-4
 unfolding rootCheck patternCheck readingOf
