@@ -100,14 +100,20 @@ impl Kind {
     pub fn sort(self) -> Sort
         ensures { λ r. ⌜ r ≡ sortOf self ⌝ }
     {
-        let number = self.number();
-        if number < 1 {
-            return Sort::Neither;
+        match self {
+            Kind::Property => Sort::Node,
+            Kind::Name => Sort::Node,
+            Kind::Not => Sort::Node,
+            Kind::Both => Sort::Node,
+            Kind::After => Sort::Node,
+            Kind::Same => Sort::Node,
+            Kind::Differ => Sort::Node,
+            Kind::Step => Sort::Path,
+            Kind::Jump => Sort::Path,
+            Kind::Test => Sort::Path,
+            Kind::Fork => Sort::Path,
+            Kind::Unknown => Sort::Neither,
         }
-        if number < 8 {
-            return Sort::Node;
-        }
-        Sort::Path
     }
 
     pub fn form(self) -> Form

@@ -20,6 +20,7 @@ offset k = 6 + 4 * k
 abbrev pub HasEntry : List ℕ → ℕ → Type 0
 HasEntry bs k = 10 + 4 * k ≤ length bs
 
+-- entry k: its kind and its fields
 abbrev pub entryAt : List ℕ → ℕ → Entry
 entryAt bs k =
     record {

@@ -7,8 +7,7 @@ use Prim.Native.Nat.{ℕ, zero, suc, _<_}
 use native.Mathlib.Omega.{arith}
 use borrow.Author.Tests.{eqb-true}
 use lib.ListN.{length, getD, List·getD-eq-default}
-use lib.Dec.{eqb, ltb}
-use Rattle.wire.specs.Choice.{pick}
+use lib.Dec.{eqb}
 use Rattle.pattern.specs.declared.table.Kind.{Kind}
 use Rattle.pattern.specs.declared.table.Sort.{Sort}
 use Rattle.pattern.specs.declared.table.Field.{Field}
@@ -48,7 +47,18 @@ endOfPath = 255
 
 -- "Kinds 1 to 7 are nodes, 8 to 11 paths."
 abbrev pub sortOf : Kind → Sort
-sortOf κ = pick (ltb (kindNumber κ) 1) Sort.Neither (pick (ltb (kindNumber κ) 8) Sort.Node Sort.Path)
+sortOf Kind.Property = Sort.Node
+sortOf Kind.Name = Sort.Node
+sortOf Kind.Not = Sort.Node
+sortOf Kind.Both = Sort.Node
+sortOf Kind.After = Sort.Node
+sortOf Kind.Same = Sort.Node
+sortOf Kind.Differ = Sort.Node
+sortOf Kind.Step = Sort.Path
+sortOf Kind.Jump = Sort.Path
+sortOf Kind.Test = Sort.Path
+sortOf Kind.Fork = Sort.Path
+sortOf Kind.Unknown = Sort.Neither
 
 abbrev row : Field → Field → Field → Form
 row a b c = record { x = a; y = b; z = c }
