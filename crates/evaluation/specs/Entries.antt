@@ -11,7 +11,7 @@ use Rattle.pattern.specs.declared.entry.Entry.{Entry}
 use Rattle.pattern.specs.File.Table.{sortOf}
 use Rattle.pattern.specs.File.Fields.{OfFields, OfReferences}
 use Rattle.pattern.specs.File.Entries.{entryAt}
-use Rattle.pattern.specs.File.Valid.{Valid, Within, EarlierNode, EarlierPath}
+use Rattle.pattern.specs.File.Valid.{Valid, Within, EarlierNode, EarlierPath, within-at, refers-at}
 use Rattle.pattern.specs.Logic.Finite.{Finite, Named, NodeOf, modelOf, namingOf}
 use Rattle.pattern.specs.Meaning.Clauses.{NodeMeans, PathMeans}
 use Rattle.pattern.specs.Meaning.Agreement.{published}
@@ -30,11 +30,11 @@ module _ {bs : List ℕ} {n : ℕ} (valid : Valid bs n) (k : ℕ) (l : k < n) (�
   -- its references stand before it and are of the sort that the table says
   pub refers-as : OfReferences (EarlierNode bs k) (EarlierPath bs k) (withKind bs k κ)
   refers-as =
-      subst (λ (κ′ : Kind). OfReferences (EarlierNode bs k) (EarlierPath bs k) (withKind bs k κ′)) kind (valid .entries k l .refers)
+      subst (λ (κ′ : Kind). OfReferences (EarlierNode bs k) (EarlierPath bs k) (withKind bs k κ′)) kind (refers-at valid k l)
 
   -- its other fields are in range
   pub within-as : OfFields Within (withKind bs k κ)
-  within-as = subst (λ (κ′ : Kind). OfFields Within (withKind bs k κ′)) kind (valid .entries k l .within)
+  within-as = subst (λ (κ′ : Kind). OfFields Within (withKind bs k κ′)) kind (within-at valid k l)
 
   module _ (F : Finite) (ok : Named F) where
     pub node-clause : sortOf κ ≡ Sort.Node → (u : NodeOf F)

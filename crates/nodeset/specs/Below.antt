@@ -18,6 +18,8 @@ unfoldable pub countBelow : ℕ → (ℕ → Bool) → ℕ
 countBelow zero test = 0
 countBelow (suc n) test = countBelow n test + pick (test n) 1 0
 
+-- ---- laws
+
 -- ---- the lowest
 pub lowest-le : (n : ℕ) (test : ℕ → Bool) → lowestBelow n test ≤ n
 unfolding lowestBelow

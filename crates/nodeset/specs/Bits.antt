@@ -22,6 +22,8 @@ bit k x = x / 2 ^ k % 2
 abbrev pub on : ℕ → ℕ → Bool
 on k x = eqb (bit k x) 1
 
+-- ---- laws
+
 -- ---- the lowest bit, and the others as the bits of the half
 
 bit-zero : (x : ℕ) → bit 0 x ≡ x % 2

@@ -15,6 +15,8 @@ use Rattle.nodeset.specs.Set.{width, has, lowestOf, sizeOf, isEmpty, but
 abbrev pub HasExactly : (ℕ → Type 0) → NodeSet → Type 0
 HasExactly P s = (u : ℕ) → (has s u ≡ true) ↔ P u
 
+-- ---- laws
+
 and-left : (a b : Bool) → a && b ≡ true → a ≡ true
 and-left true b h = refl
 and-left false b h = h

@@ -70,7 +70,7 @@ minus s t = record { bits = bitXor (s .bits) (bitAnd (s .bits) (t .bits)) }
 unfoldable pub butLowest : NodeSet → NodeSet
 butLowest s = record { bits = bitAnd (s .bits) (s .bits - 1) }
 
--- ---- what they have
+-- ---- laws
 
 pub has-beyond : (s : NodeSet) (u : ℕ) → width ≤ u → has s u ≡ false
 unfolding has

@@ -48,18 +48,6 @@ impl PatternRefusal {
     }
 }
 
-// The tests that a field is put to: that its value is in range, for refusal 5, and that a reference
-// goes back to an entry of its sort, for 6.
-pub enum FieldTest {
-    Range,
-    Reference,
-}
-
-pub enum PatternCheck {
-    Passed,
-    Refused(PatternRefusal),
-}
-
 // What reading a pattern finds: its number of entries, or the first refusal.
 pub enum PatternRead {
     Read(u8),

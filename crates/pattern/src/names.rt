@@ -12,20 +12,13 @@ fn has_name(e: Entry, name: Name) -> bool
     ensures { λ r. ⌜ r ≡ hasName (e .kind) (e .x) (name .number) ⌝ }
 {
     let kind = e.kind;
-    match kind {
-        Kind::Name => e.x == name.number,
-        Kind::Jump => e.x == name.number,
-        Kind::Property => false,
-        Kind::Not => false,
-        Kind::Both => false,
-        Kind::After => false,
-        Kind::Same => false,
-        Kind::Differ => false,
-        Kind::Step => false,
-        Kind::Test => false,
-        Kind::Fork => false,
-        Kind::Unknown => false,
+    if kind.is(Kind::Name) {
+        return e.x == name.number;
     }
+    if kind.is(Kind::Jump) {
+        return e.x == name.number;
+    }
+    false
 }
 
 // Whether a pattern that was read, of n entries, uses the name: some entry has it, whether the root

@@ -51,7 +51,7 @@ pub struct Form {
 pub const END: u8 = 255;
 
 impl Kind {
-    pub fn of(number: u8) -> Kind
+    pub(crate) fn of(number: u8) -> Kind
         ensures { λ r. ⌜ r ≡ kindOf number ⌝ }
     {
         match number {
@@ -71,7 +71,7 @@ impl Kind {
     }
 
     // Document 01's number of the kind; 0 is of none.
-    pub fn number(self) -> u8
+    fn number(self) -> u8
         ensures { λ r. ⌜ r ≡ kindNumber self ⌝ }
     {
         match self {

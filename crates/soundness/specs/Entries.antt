@@ -12,7 +12,7 @@ use Rattle.pattern.specs.File.Table.{endOfPath, formOf}
 use Rattle.pattern.specs.File.Entries.{entryAt}
 use Rattle.pattern.specs.File.Fields.{OfReferences, map-references}
 use Rattle.pattern.specs.File.Reading.{sortAt}
-use Rattle.pattern.specs.File.Valid.{Valid, Within, EarlierPath}
+use Rattle.pattern.specs.File.Valid.{Valid, Within, EarlierPath, within-at, refers-at}
 use Rattle.pattern.specs.Meaning.Clauses.{NodeMeans, PathMeans}
 use Rattle.pattern.specs.Meaning.Agreement.{HoldsAt, LeadsAt, published}
 use Rattle.lines.specs.Lines.{IsNode, IsPath}
@@ -26,7 +26,7 @@ module _ {bs : List ℕ} {n : ℕ} (ok : Valid bs n) where
   -- an entry of a valid pattern refers to its node entries and paths
   pub references-of : (k : ℕ) → k < n → (κ : Kind) → entryAt bs k .kind ≡ κ → References bs n k κ
   references-of k l κ of-kind =
-      subst (References bs n k) of-kind (map-references (λ v g. (lt-trans (g .0) l, g .1)) path (entryAt bs k) (ok .entries k l .refers))
+      subst (References bs n k) of-kind (map-references (λ v g. (lt-trans (g .0) l, g .1)) path (entryAt bs k) (refers-at ok k l))
     where
       path : (v : ℕ) → EarlierPath bs k v → IsPath bs n v
       path v (inl e) = inl e
@@ -34,7 +34,7 @@ module _ {bs : List ℕ} {n : ℕ} (ok : Valid bs n) where
 
   -- the first field is in the range of what it holds
   pub first-within : (k : ℕ) → k < n → (κ : Kind) → entryAt bs k .kind ≡ κ → Within (formOf κ .x) (entryAt bs k .x)
-  first-within k l κ of-kind = subst (λ (κ′ : Kind). Within (formOf κ′ .x) (entryAt bs k .x)) of-kind (ok .entries k l .within .0)
+  first-within k l κ of-kind = subst (λ (κ′ : Kind). Within (formOf κ′ .x) (entryAt bs k .x)) of-kind (within-at ok k l .0)
 
   -- a path that isn't at its end has an entry
   pub on-path : (v : ℕ) → IsPath bs n v → (v ≡ endOfPath → ⊥) → (v < n) × (sortAt bs v ≡ Sort.Path)

@@ -10,11 +10,12 @@ use borrow.Author.Tests.{le-ltb, lt-ltb, leb-true, leb-false}
 use lib.Dec.{leb, ltb}
 use lib.ListN.{length, take, drop, length-drop}
 use lib.Seq.{take-all}
+use Rattle.wire.specs.Choice.{pick}
 use Rattle.pattern.specs.declared.types.Name.{Name}
 use Rattle.pattern.specs.declared.types.NameMade.{NameMade}
 use Rattle.pattern.specs.declared.finding.PatternRefusal.{PatternRefusal}
 use Rattle.pattern.specs.Checks.Finding.{found, refused, found-passes, refused-refuses}
-use Rattle.pattern.specs.File.Types.{maxName, make, madeIf, made, nameMade, out-beyond}
+use Rattle.pattern.specs.File.Types.{maxName, make, made, outOfRange, nameMade, out-beyond}
 use Rattle.pattern.specs.File.Reading.{readingOf, numberOf}
 use Rattle.pattern.specs.File.Valid.{read-passes, read-refuses}
 use Rattle.lines.specs.Lines.{name}
@@ -31,7 +32,7 @@ start-made x m i e f = go (leb x maxName) refl (sym (ap nameMade f) ∙ e)
     made-number : {k n : ℕ} → made k ≡ made n → k ≡ n
     made-number h = cc
 
-    go : (b : Bool) → leb x maxName ≡ b → made (i .number) ≡ madeIf b x → (ltb maxName x ≡ false) × (i ≡ name x)
+    go : (b : Bool) → leb x maxName ≡ b → made (i .number) ≡ pick b (made x) outOfRange → (ltb maxName x ≡ false) × (i ≡ name x)
     go true l h = (le-ltb maxName x (leb-true x maxName l), ap name (made-number h))
     go false l h = (cc, cc)
 

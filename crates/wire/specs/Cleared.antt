@@ -10,6 +10,8 @@ use lib.ListN.{length, replicate, take, drop, length-take}
 unfoldable pub cleared : ℕ → List ℕ → List ℕ
 cleared n xs = replicate n 0 ++ drop n xs
 
+-- ---- laws
+
 -- the first n bytes, lent: how many they are, and where they are handed back zero
 pub front-length : (n : ℕ) (xs : List ℕ) → n ≤ length xs → length (take n xs) ≡ n
 front-length n xs l = length-take n xs ∙ min-eq-left l

@@ -41,6 +41,8 @@ abbrev pub thereupon : {A B : Type 0} → Finding A → (A → Finding B) → Fi
 thereupon (found value) next = next value
 thereupon (refused number place) next = refused number place
 
+-- ---- laws
+
 pub then-passes : (c d : Check) → c then d ≡ passes → (c ≡ passes) × (d ≡ passes)
 then-passes passes d h = (refl, h)
 then-passes (refuses number place) d h = (h, cc)

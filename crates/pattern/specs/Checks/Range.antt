@@ -18,6 +18,8 @@ unfoldable pub eachBelow : ℕ → (ℕ → Check) → Check
 eachBelow zero check = passes
 eachBelow (suc n) check = eachBelow n check then check n
 
+-- ---- laws
+
 module _ (test : ℕ → Bool) where
   pub none-below : (n : ℕ) → ((k : ℕ) → k < n → test k ≡ false) → someBelow n test ≡ false
   unfolding someBelow

@@ -1,4 +1,5 @@
--- The fields of an entry, by the table: a test of each field, and what holds of the entries that it refers to.
+-- The fields of an entry, by the table: a test of each field. Behind it, as facts, what holds of each field and of the entries that it
+-- refers to.
 -- Assumes nothing.
 use mathlib.Core.Path.{_≡_}
 use mathlib.Core.Bool.{Bool, true, false, _&&_}
@@ -13,6 +14,8 @@ use Rattle.pattern.specs.File.Table.{formOf}
 -- each field of an entry passes the test, x before y before z
 unfoldable pub eachField : (Field → ℕ → Bool) → Entry → Bool
 eachField test e = test (formOf (e .kind) .x) (e .x) && test (formOf (e .kind) .y) (e .y) && test (formOf (e .kind) .z) (e .z)
+
+-- ---- laws
 
 -- P holds of what each field of an entry holds and its value
 abbrev pub OfFields : (Field → ℕ → Type 0) → Entry → Type 0

@@ -1,29 +1,28 @@
 -- Reading a pattern: 01's refusals 1 to 8, in its order, as an executable definition.
 -- Assumes nothing.
-use mathlib.Core.Bool.{Bool, true, false, not, _||_}
+use mathlib.Core.Bool.{Bool, true, not, _||_}
 use mathlib.Core.List.{List, [], _∷_}
 use Prim.Native.Nat.{ℕ, _+_, _-_, _*_}
 use lib.ListN.{length, getD}
 use lib.Dec.{leb, ltb, eqb}
+use Rattle.wire.specs.Choice.{pick}
 use Rattle.wire.specs.Fields.{beginsWith, wordAt}
 use Rattle.pattern.specs.declared.table.Sort.{Sort}
 use Rattle.pattern.specs.declared.table.Field.{Field}
-use Rattle.pattern.specs.declared.finding.FieldTest.{FieldTest}
 use Rattle.pattern.specs.declared.finding.PatternRefusal.{PatternRefusal}
-use Rattle.pattern.specs.declared.finding.PatternCheck.{PatternCheck}
 use Rattle.pattern.specs.declared.finding.PatternRead.{PatternRead}
 use Rattle.pattern.specs.File.Types.{maxName, maxProperty, maxAxis, maxChannel}
-use Rattle.pattern.specs.Checks.Finding.{Finding, found, refused, Check, passes, refuses, refusesIf, _then_, unless}
+use Rattle.pattern.specs.Checks.Finding.{Finding, found, refused, Check, refusesIf, _then_, unless}
 use Rattle.pattern.specs.Checks.Range.{someBelow, eachBelow}
 use Rattle.pattern.specs.File.Table.{endOfPath, sortOf, isNeither, isNode, isPath}
 use Rattle.pattern.specs.File.Fields.{eachField}
-use Rattle.pattern.specs.File.Entries.{entryAt, sameBytes}
+use Rattle.pattern.specs.File.Entries.{maxEntries, entryAt, sameBytes}
 
 -- the mark `PAT`
 abbrev pub mark : List ℕ
 mark = 80 ∷ 65 ∷ 84 ∷ []
 
--- "one byte n (1 to 255)"
+-- the number of entries, "one byte n"
 abbrev pub countOf : List ℕ → ℕ
 countOf bs = getD bs 5 0
 
@@ -37,7 +36,7 @@ versionCheck bs = refusesIf (not (eqb (wordAt bs 3) 1)) 2 0
 
 -- "3: n zero or length not 6 + 4n." n is one byte, which a list of numbers does not say by itself
 abbrev pub countCheck : List ℕ → Check
-countCheck bs = refusesIf (eqb (countOf bs) 0 || (ltb 255 (countOf bs) || not (eqb (length bs) (6 + 4 * countOf bs)))) 3 0
+countCheck bs = refusesIf (eqb (countOf bs) 0 || (ltb maxEntries (countOf bs) || not (eqb (length bs) (6 + 4 * countOf bs)))) 3 0
 
 unfoldable pub headerCheck : List ℕ → Check
 headerCheck bs = markCheck bs then versionCheck bs then countCheck bs
@@ -52,16 +51,12 @@ inRange Field.Channel v = leb v maxChannel
 inRange Field.Node v = true
 inRange Field.Path v = true
 
-abbrev pub sortIf : Bool → Sort → Sort
-sortIf true s = s
-sortIf false s = Sort.Neither
-
 abbrev pub sortAt : List ℕ → ℕ → Sort
 sortAt bs k = sortOf (entryAt bs k .kind)
 
 -- the sort of an entry before k; there is none at or after k
 abbrev pub earlierSort : List ℕ → ℕ → ℕ → Sort
-earlierSort bs k v = sortIf (ltb v k) (sortAt bs v)
+earlierSort bs k v = pick (ltb v k) (sortAt bs v) Sort.Neither
 
 -- a field of entry k, if it is a reference, is "an earlier entry of the wanted sort (path end excepted)"
 abbrev pub refersBack : List ℕ → ℕ → Field → ℕ → Bool
@@ -73,11 +68,6 @@ refersBack bs k Field.Channel v = true
 refersBack bs k Field.Node v = isNode (earlierSort bs k v)
 refersBack bs k Field.Path v = eqb v endOfPath || isPath (earlierSort bs k v)
 
--- the two tests that the fields of entry k are put to
-abbrev pub fieldTest : List ℕ → ℕ → FieldTest → Field → ℕ → Bool
-fieldTest bs k FieldTest.Range F v = inRange F v
-fieldTest bs k FieldTest.Reference F v = refersBack bs k F v
-
 -- "equal to an earlier entry"
 abbrev pub repeatsAt : List ℕ → ℕ → Bool
 repeatsAt bs k = someBelow k (λ j. sameBytes bs j k)
@@ -88,11 +78,11 @@ kindCheck bs k = refusesIf (isNeither (sortAt bs k)) 4 k
 
 -- "5, a field out of range or an unused one not zero;"
 abbrev pub fieldCheck : List ℕ → ℕ → Check
-fieldCheck bs k = refusesIf (not (eachField (fieldTest bs k FieldTest.Range) (entryAt bs k))) 5 k
+fieldCheck bs k = refusesIf (not (eachField inRange (entryAt bs k))) 5 k
 
 -- "6, a reference that isn't an earlier entry of the wanted sort (path end excepted);"
 abbrev pub referenceCheck : List ℕ → ℕ → Check
-referenceCheck bs k = refusesIf (not (eachField (fieldTest bs k FieldTest.Reference) (entryAt bs k))) 6 k
+referenceCheck bs k = refusesIf (not (eachField (refersBack bs k) (entryAt bs k))) 6 k
 
 -- "7, equal to an earlier entry."
 abbrev pub repeatCheck : List ℕ → ℕ → Check
@@ -114,30 +104,21 @@ unfoldable pub readingOf : List ℕ → Finding ℕ
 readingOf bs = unless (patternCheck bs) (countOf bs)
 
 -- 01's number and place of each refusal of reading
+abbrev pub refusalOf : PatternRefusal → ℕ × ℕ
+refusalOf PatternRefusal.Mark = (1, 0)
+refusalOf PatternRefusal.Version = (2, 0)
+refusalOf PatternRefusal.Count = (3, 0)
+refusalOf (PatternRefusal.Kind k) = (4, k)
+refusalOf (PatternRefusal.Field k) = (5, k)
+refusalOf (PatternRefusal.Reference k) = (6, k)
+refusalOf (PatternRefusal.Repeat k) = (7, k)
+refusalOf (PatternRefusal.RootPath k) = (8, k)
+
 abbrev pub numberOf : PatternRefusal → ℕ
-numberOf PatternRefusal.Mark = 1
-numberOf PatternRefusal.Version = 2
-numberOf PatternRefusal.Count = 3
-numberOf (PatternRefusal.Kind k) = 4
-numberOf (PatternRefusal.Field k) = 5
-numberOf (PatternRefusal.Reference k) = 6
-numberOf (PatternRefusal.Repeat k) = 7
-numberOf (PatternRefusal.RootPath k) = 8
+numberOf refusal = refusalOf refusal .0
 
 abbrev pub placeOf : PatternRefusal → ℕ
-placeOf PatternRefusal.Mark = 0
-placeOf PatternRefusal.Version = 0
-placeOf PatternRefusal.Count = 0
-placeOf (PatternRefusal.Kind k) = k
-placeOf (PatternRefusal.Field k) = k
-placeOf (PatternRefusal.Reference k) = k
-placeOf (PatternRefusal.Repeat k) = k
-placeOf (PatternRefusal.RootPath k) = k
-
--- the outcome of a check of a pattern
-abbrev pub checkOf : PatternCheck → Check
-checkOf PatternCheck.Passed = passes
-checkOf (PatternCheck.Refused refusal) = refuses (numberOf refusal) (placeOf refusal)
+placeOf refusal = refusalOf refusal .1
 
 -- the finding of reading
 abbrev pub findingOf : PatternRead → Finding ℕ

@@ -5,6 +5,7 @@ use mathlib.Core.Bool.{Bool, true, false}
 use Prim.Native.Nat.{ℕ, _≤_, _<_}
 use borrow.Author.Tests.{le-leb, lt-leb}
 use lib.Dec.{leb}
+use Rattle.wire.specs.Choice.{pick}
 use Rattle.pattern.specs.declared.types.NameMade.{NameMade}
 use Rattle.pattern.specs.declared.types.PropertyMade.{PropertyMade}
 use Rattle.pattern.specs.declared.types.AxisMade.{AxisMade}
@@ -31,13 +32,9 @@ pub data Made : Type 0 where
   made : ℕ → Made
   outOfRange : Made
 
-abbrev pub madeIf : Bool → ℕ → Made
-madeIf true n = made n
-madeIf false n = outOfRange
-
 -- a number up to the largest is made, any other is out of range
 abbrev pub make : ℕ → ℕ → Made
-make largest n = madeIf (leb n largest) n
+make largest n = pick (leb n largest) (made n) outOfRange
 
 -- 01's number of each channel
 abbrev pub channelNumber : Channel → ℕ
@@ -83,13 +80,13 @@ make-out largest n h = rw (lt-leb n largest h)
 pub made-within : (largest n k : ℕ) → made k ≡ make largest n → true ≡ leb n largest
 made-within largest n k e = go (leb n largest) e
   where
-    go : (b : Bool) → made k ≡ madeIf b n → true ≡ b
+    go : (b : Bool) → made k ≡ pick b (made n) outOfRange → true ≡ b
     go true h = refl
     go false h = cc
 
 pub out-beyond : (largest n : ℕ) → outOfRange ≡ make largest n → false ≡ leb n largest
 out-beyond largest n e = go (leb n largest) e
   where
-    go : (b : Bool) → outOfRange ≡ madeIf b n → false ≡ b
+    go : (b : Bool) → outOfRange ≡ pick b (made n) outOfRange → false ≡ b
     go true h = cc
     go false h = refl

@@ -7,6 +7,8 @@ use Prim.Native.Nat.{ℕ}
 use Rattle.pattern.specs.Logic.Syntax.{NExp, PExp}
 use Rattle.pattern.specs.Logic.Semantics.{Model, Naming, Compared, Leads, Holds}
 
+-- ---- laws
+
 -- 000: "NOM(ε) denotes the set of nominals appearing in an expression": P holds of each of them
 abbrev mutual
   pub OfNames : (ℕ → Type 0) → NExp → Type 0

@@ -28,10 +28,6 @@ Named F = (i : ℕ) → F .named i < F .size
 abbrev pub NodeOf : Finite → Type 0
 NodeOf F = (u : ℕ) × (u < F .size)
 
--- its number is all that there is to a node
-pub node-same : (F : Finite) {x y : NodeOf F} → x .0 ≡ y .0 → x ≡ y
-node-same F {x} {y} e = Fin·val-path {n = F .size} {i = x} {j = y} e
-
 -- nodes are alike on a channel where their values are equal
 abbrev pub modelOf : Finite → Model
 modelOf F = record {
@@ -46,3 +42,9 @@ modelOf F = record {
 
 abbrev pub namingOf : (F : Finite) → Named F → Naming (modelOf F)
 namingOf F ok i = (F .named i, ok i)
+
+-- ---- laws
+
+-- its number is all that there is to a node
+pub node-same : (F : Finite) {x y : NodeOf F} → x .0 ≡ y .0 → x ≡ y
+node-same F {x} {y} e = Fin·val-path {n = F .size} {i = x} {j = y} e

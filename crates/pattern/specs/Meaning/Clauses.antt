@@ -1,4 +1,5 @@
--- 01's reading of an entry ("Meaning"), clause by clause, in its words.
+-- 01's reading of an entry ("Meaning"), clause by clause, in its words. The promises are stated by source 000's clauses (`Logic.Semantics`);
+-- that these say the same is `published`.
 -- Assumes nothing.
 use mathlib.Core.Path.{_≡_}
 use mathlib.Core.Logic.{_⊎_, _↔_}

@@ -16,7 +16,7 @@ use Rattle.pattern.specs.File.Table.{endOfPath}
 use Rattle.pattern.specs.File.Entries.{entryAt}
 use Rattle.pattern.specs.File.Fields.{OfReferences, map-references}
 use Rattle.pattern.specs.File.Reading.{countOf}
-use Rattle.pattern.specs.File.Valid.{Valid, EarlierNode, EarlierPath}
+use Rattle.pattern.specs.File.Valid.{Valid, EarlierNode, EarlierPath, refers-at}
 
 -- End of path. 000 has no empty path; [⊤], which leads from each node to itself alone, stands for it.
 abbrev pub end : PExp
@@ -24,35 +24,35 @@ end = PExp.test truth
 
 -- The expression of a node entry with these fields, given the expressions of the entries that it refers to. A path entry is no node, and
 -- what stands there is never asked.
-abbrev pub nodeOf : Kind → ℕ → ℕ → ℕ → (ℕ → NExp) → (ℕ → PExp) → NExp
-nodeOf Kind.Property x y z N P = NExp.property x
-nodeOf Kind.Name x y z N P = NExp.name x
-nodeOf Kind.Not x y z N P = NExp.not (N x)
-nodeOf Kind.Both x y z N P = NExp.both (N x) (N y)
-nodeOf Kind.After x y z N P = NExp.after x (N y)
-nodeOf Kind.Same x y z N P = NExp.compare Comparison.Same x (P y) (P z)
-nodeOf Kind.Differ x y z N P = NExp.compare Comparison.Differ x (P y) (P z)
-nodeOf Kind.Step x y z N P = truth
-nodeOf Kind.Jump x y z N P = truth
-nodeOf Kind.Test x y z N P = truth
-nodeOf Kind.Fork x y z N P = truth
-nodeOf Kind.Unknown x y z N P = truth
+abbrev pub nodeExpression : Kind → ℕ → ℕ → ℕ → (ℕ → NExp) → (ℕ → PExp) → NExp
+nodeExpression Kind.Property x y z N P = NExp.property x
+nodeExpression Kind.Name x y z N P = NExp.name x
+nodeExpression Kind.Not x y z N P = NExp.not (N x)
+nodeExpression Kind.Both x y z N P = NExp.both (N x) (N y)
+nodeExpression Kind.After x y z N P = NExp.after x (N y)
+nodeExpression Kind.Same x y z N P = NExp.compare Comparison.Same x (P y) (P z)
+nodeExpression Kind.Differ x y z N P = NExp.compare Comparison.Differ x (P y) (P z)
+nodeExpression Kind.Step x y z N P = truth
+nodeExpression Kind.Jump x y z N P = truth
+nodeExpression Kind.Test x y z N P = truth
+nodeExpression Kind.Fork x y z N P = truth
+nodeExpression Kind.Unknown x y z N P = truth
 
 -- The same of a path entry: "Source 000's composition is carried by the rest of each path." A node entry is no path, and what
 -- stands there is never asked.
-abbrev pub pathOf : Kind → ℕ → ℕ → ℕ → (ℕ → NExp) → (ℕ → PExp) → PExp
-pathOf Kind.Property x y z N P = end
-pathOf Kind.Name x y z N P = end
-pathOf Kind.Not x y z N P = end
-pathOf Kind.Both x y z N P = end
-pathOf Kind.After x y z N P = end
-pathOf Kind.Same x y z N P = end
-pathOf Kind.Differ x y z N P = end
-pathOf Kind.Step x y z N P = PExp.compose (PExp.down x) (P y)
-pathOf Kind.Jump x y z N P = PExp.compose (PExp.jump x) (P y)
-pathOf Kind.Test x y z N P = PExp.compose (PExp.test (N x)) (P y)
-pathOf Kind.Fork x y z N P = PExp.union (P x) (P y)
-pathOf Kind.Unknown x y z N P = end
+abbrev pub pathExpression : Kind → ℕ → ℕ → ℕ → (ℕ → NExp) → (ℕ → PExp) → PExp
+pathExpression Kind.Property x y z N P = end
+pathExpression Kind.Name x y z N P = end
+pathExpression Kind.Not x y z N P = end
+pathExpression Kind.Both x y z N P = end
+pathExpression Kind.After x y z N P = end
+pathExpression Kind.Same x y z N P = end
+pathExpression Kind.Differ x y z N P = end
+pathExpression Kind.Step x y z N P = PExp.compose (PExp.down x) (P y)
+pathExpression Kind.Jump x y z N P = PExp.compose (PExp.jump x) (P y)
+pathExpression Kind.Test x y z N P = PExp.compose (PExp.test (N x)) (P y)
+pathExpression Kind.Fork x y z N P = PExp.union (P x) (P y)
+pathExpression Kind.Unknown x y z N P = end
 
 -- "A path reference 255 means end of path."
 abbrev pub orEnd : Bool → PExp → PExp
@@ -64,13 +64,13 @@ unfoldable mutual
   pub nodeWithin : List ℕ → ℕ → ℕ → NExp
   nodeWithin bs zero k = truth
   nodeWithin bs (suc depth) k =
-      nodeOf (entryAt bs k .kind) (entryAt bs k .x) (entryAt bs k .y) (entryAt bs k .z) (λ v. nodeWithin bs depth v)
+      nodeExpression (entryAt bs k .kind) (entryAt bs k .x) (entryAt bs k .y) (entryAt bs k .z) (λ v. nodeWithin bs depth v)
       (λ v. orEnd (eqb v endOfPath) (pathWithin bs depth v))
 
   pub pathWithin : List ℕ → ℕ → ℕ → PExp
   pathWithin bs zero k = end
   pathWithin bs (suc depth) k =
-      pathOf (entryAt bs k .kind) (entryAt bs k .x) (entryAt bs k .y) (entryAt bs k .z) (λ v. nodeWithin bs depth v)
+      pathExpression (entryAt bs k .kind) (entryAt bs k .x) (entryAt bs k .y) (entryAt bs k .z) (λ v. nodeWithin bs depth v)
       (λ v. orEnd (eqb v endOfPath) (pathWithin bs depth v))
 
 -- The node expression of entry k. References are earlier, so k + 1 is deep enough.
@@ -85,10 +85,12 @@ pathAt bs v = orEnd (eqb v endOfPath) (pathWithin bs (suc v) v)
 abbrev pub rootOf : List ℕ → NExp
 rootOf bs = nodeAt bs (countOf bs - 1)
 
+-- ---- laws
+
 module _ (N N′ : ℕ → NExp) (P P′ : ℕ → PExp) (x y z : ℕ) where
   -- an expression is made of those of its references alone
   node-same : (κ : Kind) → OfReferences (λ v. N v ≡ N′ v) (λ v. P v ≡ P′ v) (record { kind = κ; x = x; y = y; z = z })
-      → nodeOf κ x y z N P ≡ nodeOf κ x y z N′ P′
+      → nodeExpression κ x y z N P ≡ nodeExpression κ x y z N′ P′
   node-same Kind.Property h = refl
   node-same Kind.Name h = refl
   node-same Kind.Not h = ap NExp.not (h .0)
@@ -103,7 +105,7 @@ module _ (N N′ : ℕ → NExp) (P P′ : ℕ → PExp) (x y z : ℕ) where
   node-same Kind.Unknown h = refl
 
   path-same : (κ : Kind) → OfReferences (λ v. N v ≡ N′ v) (λ v. P v ≡ P′ v) (record { kind = κ; x = x; y = y; z = z })
-      → pathOf κ x y z N P ≡ pathOf κ x y z N′ P′
+      → pathExpression κ x y z N P ≡ pathExpression κ x y z N′ P′
   path-same Kind.Property h = refl
   path-same Kind.Name h = refl
   path-same Kind.Not h = refl
@@ -125,7 +127,7 @@ module _ {bs : List ℕ} {n : ℕ} (ok : Valid bs n) where
   -- what agrees on the entries before k agrees on the references of entry k
   agree : (N N′ : ℕ → NExp) (P P′ : ℕ → PExp) (k : ℕ) → k < n → ((v : ℕ) → v < k → (N v ≡ N′ v) × (P v ≡ P′ v))
       → OfReferences (λ v. N v ≡ N′ v) (Agree P P′) (entryAt bs k)
-  agree N N′ P P′ k l same = map-references node path (entryAt bs k) (ok .entries k l .refers)
+  agree N N′ P P′ k l same = map-references node path (entryAt bs k) (refers-at ok k l)
     where
       node : (v : ℕ) → EarlierNode bs k v → N v ≡ N′ v
       node v h = same v (h .0) .0
@@ -156,12 +158,12 @@ module _ {bs : List ℕ} {n : ℕ} (ok : Valid bs n) where
 
   -- the expression of an entry, by the expressions of its references
   pub node-at : (k : ℕ) → k < n
-      → nodeAt bs k ≡ nodeOf (entryAt bs k .kind) (entryAt bs k .x) (entryAt bs k .y) (entryAt bs k .z) (nodeAt bs) (pathAt bs)
+      → nodeAt bs k ≡ nodeExpression (entryAt bs k .kind) (entryAt bs k .x) (entryAt bs k .y) (entryAt bs k .z) (nodeAt bs) (pathAt bs)
   unfolding nodeAt nodeWithin pathWithin
   node-at k l = let e = entryAt bs k in node-same _ _ _ _ (e .x) (e .y) (e .z) (e .kind) (agree-at k l)
 
   pub path-at : (k : ℕ) → k < n
-      → pathAt bs k ≡ pathOf (entryAt bs k .kind) (entryAt bs k .x) (entryAt bs k .y) (entryAt bs k .z) (nodeAt bs) (pathAt bs)
+      → pathAt bs k ≡ pathExpression (entryAt bs k .kind) (entryAt bs k .x) (entryAt bs k .y) (entryAt bs k .z) (nodeAt bs) (pathAt bs)
   unfolding pathAt nodeWithin pathWithin
   path-at k l =
       let e = entryAt bs k in

@@ -1,42 +1,30 @@
 -- Which names a pattern uses, and that no other name bears on what its entries mean.
 -- Assumes nothing.
 use mathlib.Core.Path.{_≡_, refl, sym, subst}
-use mathlib.Core.Bool.{Bool, true, false, false≢true}
+use mathlib.Core.Bool.{Bool, true, false, _&&_, _||_}
 use mathlib.Core.Logic.{_⊎_, inl, inr}
 use mathlib.Core.List.{List}
 use mathlib.Core.WellFounded.{WellFounded·induction}
-use Prim.Native.Nat.{ℕ, _≤_, _<_}
+use Prim.Native.Nat.{ℕ, _<_}
 use native.Mathlib.Nat.{lt-trans}
 use lib.WfN.{Nat·lt-wfRel}
 use lib.Dec.{eqb}
-use borrow.Author.Tests.{eq-eqb, eqb-true}
+use borrow.Author.Tests.{eq-eqb}
 use Rattle.pattern.specs.declared.table.Kind.{Kind}
 use Rattle.pattern.specs.Logic.Syntax.{NExp, PExp}
 use Rattle.pattern.specs.Logic.Semantics.{Model, Naming, Leads, Holds}
 use Rattle.pattern.specs.Logic.Coincidence.{OfNames, OfNamesP, same-holds, same-leads}
-use Rattle.pattern.specs.Checks.Range.{someBelow, some-at, none-at, none-below, some-found}
+use Rattle.pattern.specs.Checks.Range.{someBelow, some-at, none-below}
 use Rattle.pattern.specs.File.Entries.{entryAt}
 use Rattle.pattern.specs.File.Reading.{countOf}
 use Rattle.pattern.specs.File.Fields.{OfReferences, map-references}
-use Rattle.pattern.specs.File.Types.{maxName}
-use Rattle.pattern.specs.File.Table.{endOfPath, formOf}
-use Rattle.pattern.specs.File.Valid.{Valid, Within, EarlierPath}
-use Rattle.pattern.specs.Meaning.Expression.{nodeOf, pathOf, nodeAt, pathAt, node-at, path-at, end-at}
+use Rattle.pattern.specs.File.Table.{endOfPath, sameKind}
+use Rattle.pattern.specs.File.Valid.{Valid, EarlierPath, refers-at}
+use Rattle.pattern.specs.Meaning.Expression.{nodeExpression, pathExpression, nodeAt, pathAt, node-at, path-at, end-at}
 
--- an entry of this kind with x for its first field has the name
+-- an entry of this kind with x for its first field has the name: it is "of kind 2 or 9", and x is the name
 abbrev pub hasName : Kind → ℕ → ℕ → Bool
-hasName Kind.Property x i = false
-hasName Kind.Name x i = eqb x i
-hasName Kind.Not x i = false
-hasName Kind.Both x i = false
-hasName Kind.After x i = false
-hasName Kind.Same x i = false
-hasName Kind.Differ x i = false
-hasName Kind.Step x i = false
-hasName Kind.Jump x i = eqb x i
-hasName Kind.Test x i = false
-hasName Kind.Fork x i = false
-hasName Kind.Unknown x i = false
+hasName κ x i = (sameKind κ Kind.Name || sameKind κ Kind.Jump) && eqb x i
 
 -- entry k has the name
 abbrev pub entryUses : List ℕ → ℕ → ℕ → Bool
@@ -46,10 +34,12 @@ entryUses bs i k = hasName (entryAt bs k .kind) (entryAt bs k .x) i
 unfoldable pub usesName : List ℕ → ℕ → Bool
 usesName bs i = someBelow (countOf bs) (entryUses bs i)
 
+-- ---- laws
+
 module _ (Q : ℕ → Type 0) (N : ℕ → NExp) (P : ℕ → PExp) (x y z : ℕ) where
   -- the names of an entry's expression are its own and those of its references
   node-names : (κ : Kind) → ((i : ℕ) → hasName κ x i ≡ true → Q i)
-      → OfReferences (λ v. OfNames Q (N v)) (λ v. OfNamesP Q (P v)) (record { kind = κ; x = x; y = y; z = z }) → OfNames Q (nodeOf κ x y z N P)
+      → OfReferences (λ v. OfNames Q (N v)) (λ v. OfNamesP Q (P v)) (record { kind = κ; x = x; y = y; z = z }) → OfNames Q (nodeExpression κ x y z N P)
   node-names Kind.Property own r = tt
   node-names Kind.Name own r = own x (eq-eqb x x refl)
   node-names Kind.Not own r = r .0
@@ -64,7 +54,7 @@ module _ (Q : ℕ → Type 0) (N : ℕ → NExp) (P : ℕ → PExp) (x y z : ℕ
   node-names Kind.Unknown own r = (tt, tt)
 
   path-names : (κ : Kind) → ((i : ℕ) → hasName κ x i ≡ true → Q i)
-      → OfReferences (λ v. OfNames Q (N v)) (λ v. OfNamesP Q (P v)) (record { kind = κ; x = x; y = y; z = z }) → OfNamesP Q (pathOf κ x y z N P)
+      → OfReferences (λ v. OfNames Q (N v)) (λ v. OfNamesP Q (P v)) (record { kind = κ; x = x; y = y; z = z }) → OfNamesP Q (pathExpression κ x y z N P)
   path-names Kind.Property own r = (tt, tt)
   path-names Kind.Name own r = (tt, tt)
   path-names Kind.Not own r = (tt, tt)
@@ -87,35 +77,9 @@ module _ {bs : List ℕ} {n : ℕ} (ok : Valid bs n) (i : ℕ) where
   unfolding usesName
   uses-at k l h = some-at (entryUses bs i) (countOf bs) k (rw (ok .count-is) l) h
 
-  pub unused-at : usesName bs i ≡ false → (k : ℕ) → k < n → entryUses bs i k ≡ false
-  unfolding usesName
-  unused-at h k l = none-at (entryUses bs i) (countOf bs) k h (rw (ok .count-is) l)
-
   pub unused : ((k : ℕ) → k < n → entryUses bs i k ≡ false) → usesName bs i ≡ false
   unfolding usesName
   unused h = none-below (entryUses bs i) (countOf bs) (λ k l. h k (rw (ok .count-is) at l))
-
-  -- a name that is used is in range
-  pub used-in-range : usesName bs i ≡ true → i ≤ maxName
-  unfolding usesName
-  used-in-range h =
-      let r = some-found (entryUses bs i) (countOf bs) h in
-      let e = entryAt bs (r .0) in
-      named-in-range (e .kind) (e .x) (ok .entries (r .0) (subst (λ (m : ℕ). r .0 < m) (ok .count-is) (r .1)) .within .0) (r .2)
-    where
-      named-in-range : (κ : Kind) (x : ℕ) → Within (formOf κ .x) x → hasName κ x i ≡ true → i ≤ maxName
-      named-in-range Kind.Property x w u = absurd (false≢true u)
-      named-in-range Kind.Name x w u = rw (eqb-true x i u) at w
-      named-in-range Kind.Not x w u = absurd (false≢true u)
-      named-in-range Kind.Both x w u = absurd (false≢true u)
-      named-in-range Kind.After x w u = absurd (false≢true u)
-      named-in-range Kind.Same x w u = absurd (false≢true u)
-      named-in-range Kind.Differ x w u = absurd (false≢true u)
-      named-in-range Kind.Step x w u = absurd (false≢true u)
-      named-in-range Kind.Jump x w u = rw (eqb-true x i u) at w
-      named-in-range Kind.Test x w u = absurd (false≢true u)
-      named-in-range Kind.Fork x w u = absurd (false≢true u)
-      named-in-range Kind.Unknown x w u = absurd (false≢true u)
 
 module _ {bs : List ℕ} {n : ℕ} (ok : Valid bs n) (Q : ℕ → Type 0) (used : (i : ℕ) → usesName bs i ≡ true → Q i) where
   -- of the expressions of an entry
@@ -127,7 +91,7 @@ module _ {bs : List ℕ} {n : ℕ} (ok : Valid bs n) (Q : ℕ → Type 0) (used 
 
   references : (k : ℕ) → k < n → ((v : ℕ) → v < k → OfEntry v)
       → OfReferences (λ v. OfNames Q (nodeAt bs v)) (λ v. OfNamesP Q (pathAt bs v)) (entryAt bs k)
-  references k l below = map-references (λ v g. below v (g .0) .0) path (entryAt bs k) (ok .entries k l .refers)
+  references k l below = map-references (λ v g. below v (g .0) .0) path (entryAt bs k) (refers-at ok k l)
     where
       path : (v : ℕ) → EarlierPath bs k v → OfNamesP Q (pathAt bs v)
       path v (inl e) = end-names v e

@@ -8,7 +8,8 @@ use lib.ListN.{length}
 use borrow.Author.Count.{below-none, below-more}
 use Rattle.pattern.specs.Checks.Finding.{passes}
 use Rattle.pattern.specs.Checks.Range.{each-below, each-first}
-use Rattle.pattern.specs.File.Reading.{entryCheck, checkOf}
+use Rattle.pattern.specs.File.Reading.{entryCheck}
+use Rattle.pattern_read.specs.Enums.{checkOf}
 use Rattle.pattern_read.proofs.check_entries.Statement.{statement}
 use Rattle.pattern_read.proofs.check_entries.Tie as tie
 

@@ -1,16 +1,15 @@
 -- `pattern_read::check_entry` meets its contract: each test is a check of `entryCheck`, asked in its order. What each test that was passed
 -- shows is said once, at the place behind it.
 -- Assumes nothing.
-use mathlib.Core.Path.{_≡_, sym, ap, _∙_}
+use mathlib.Core.Path.{_≡_, refl, sym, ap, _∙_}
 use mathlib.Core.Bool.{Bool, true, false}
 use borrow.Author.Needs.{needs}
 use borrow.Author.Tests.{not-true, not-false}
 use Rattle.pattern.specs.declared.entry.Entry.{Entry}
-use Rattle.pattern.specs.declared.finding.FieldTest.{FieldTest}
 use Rattle.pattern.specs.File.Table.{sortOf, isNeither}
 use Rattle.pattern.specs.File.Fields.{eachField}
 use Rattle.pattern.specs.File.Entries.{entryAt}
-use Rattle.pattern.specs.File.Reading.{sortAt, fieldTest, entryCheck}
+use Rattle.pattern.specs.File.Reading.{inRange, refersBack, sortAt, entryCheck}
 use Rattle.pattern.specs.Checks.Tests.{asked}
 use Rattle.pattern_read.proofs.check_entry.Statement.{statement}
 use Rattle.pattern_read.proofs.check_entry.Tie as tie
@@ -38,28 +37,28 @@ fields-pass-requires c κs = search needs
 
 range-asked : (c : tie.After-fields-pass) (t : Bool) → c .fields-pass .result ≡ t
     → let a = c .before .before .before .before .before .before .args in
-    eachField (fieldTest (a .p .now) (a .k) FieldTest.Range) (entryAt (a .p .now) (a .k)) ≡ t
+    eachField inRange (entryAt (a .p .now) (a .k)) ≡ t
 range-asked c t h =
     let s = c .before .before .before .before in
     let a = s .before .before .args in
-    asked (eachField (fieldTest (a .p .now) (a .k) FieldTest.Range)) (s .at .ensures) (c .fields-pass .ensures) h
+    asked (eachField inRange) (s .at .ensures) (c .fields-pass .ensures) h
 
 returns-2 : tie.Need-returns-2
 unfolding entryCheck
 returns-2 c =
     let f = c .before in
-    rw (sort-asked (f .before .before) false (f .before .if1 .left), range-asked f false (not-true _ (c .if2 .taken)))
+    rw (sort-asked (f .before .before) false (f .before .if1 .left), range-asked f false (not-true _ (c .if2 .taken))) refl
 
 fields-pass-requires-2 : tie.Need-fields-pass-requires-2
 fields-pass-requires-2 c κs = search needs
 
 references-asked : (c : tie.After-fields-pass2) (t : Bool) → c .fields-pass2 .result ≡ t
     → let a = c .before .before .before .before .before .before .before .before .args in
-    eachField (fieldTest (a .p .now) (a .k) FieldTest.Reference) (entryAt (a .p .now) (a .k)) ≡ t
+    eachField (refersBack (a .p .now) (a .k)) (entryAt (a .p .now) (a .k)) ≡ t
 references-asked c t h =
     let s = c .before .before .before .before .before .before in
     let a = s .before .before .args in
-    asked (eachField (fieldTest (a .p .now) (a .k) FieldTest.Reference)) (s .at .ensures) (c .fields-pass2 .ensures) h
+    asked (eachField (refersBack (a .p .now) (a .k))) (s .at .ensures) (c .fields-pass2 .ensures) h
 
 returns-3 : tie.Need-returns-3
 unfolding entryCheck

@@ -6,7 +6,7 @@ use mathlib.Core.Bool.{Bool}
 use Prim.Native.Nat.{ℕ}
 use Rattle.pattern.specs.declared.table.Field.{Field}
 use Rattle.pattern.specs.File.Fields.{x-fails, y-fails, z-decides}
-use Rattle.pattern.specs.File.Reading.{fieldTest}
+use Rattle.pattern_read.specs.Enums.{fieldTest}
 use borrow.Author.Needs.{needs}
 use Rattle.pattern_read.proofs.fields_pass.Statement.{statement}
 use Rattle.pattern_read.proofs.fields_pass.Tie as tie

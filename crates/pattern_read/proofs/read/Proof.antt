@@ -1,13 +1,14 @@
 -- `pattern_read::read` meets its contract: the checks are those of `patternCheck`, in its order. What each check that passed shows is said
 -- once, at the place behind it.
 -- Assumes nothing.
-use mathlib.Core.Path.{_≡_, sym, ap, _∙_}
+use mathlib.Core.Path.{_≡_, refl, sym, ap, _∙_}
 use native.Mathlib.Omega.{arith}
 use borrow.Author.Needs.{needs}
 use Rattle.pattern.specs.Checks.Finding.{passes}
 use Rattle.pattern.specs.Checks.Range.{eachBelow}
 use Rattle.pattern.specs.File.Table.{isPath}
-use Rattle.pattern.specs.File.Reading.{checkOf, countOf, headerCheck, entryCheck, rootCheck, patternCheck, readingOf}
+use Rattle.pattern.specs.File.Reading.{countOf, headerCheck, entryCheck, rootCheck, patternCheck, readingOf}
+use Rattle.pattern_read.specs.Enums.{checkOf}
 use Rattle.pattern.specs.File.Valid.{Header, header-passes}
 use Rattle.pattern.specs.Checks.Tests.{asked}
 use Rattle.pattern_read.proofs.read.Statement.{statement}
@@ -72,7 +73,7 @@ returns-3 c =
       header-passed (e .before .before .before .before),
       entries-passed e,
       asked isPath (c .before .before .sort-at .ensures) (c .before .is-path .ensures) (c .if1 .taken),
-    )
+    ) refl
 
 returns-4 : tie.Need-returns-4
 unfolding rootCheck patternCheck readingOf

@@ -17,7 +17,7 @@ abbrev μ-loop : tie.MeasureT-loop
 μ-loop s mark i₀ i = length mark - i
 
 returns : tie.Need-returns Inv-loop μ-loop
-returns c = let a = c .before .args in sym (begins-short (a .mark .now) (a .s .now) (search needs))
+returns c = let a = c .before .args in sym (begins-short (a .mark .now) (a .s .now) (omega (arith, c .if1 .taken)))
 
 loop-holds : tie.Need-loop-holds Inv-loop μ-loop
 loop-holds c = (search needs, search needs, below-none _)
