@@ -1,15 +1,15 @@
--- `runner::report_for` meets its contract: the report says what the judgement of the proposal's mark finds.
+-- `report::report_for` meets its contract: the report says what the judgement of the proposal's mark finds.
 -- Assumes nothing.
 use mathlib.Core.Path.{refl}
 use borrow.Author.Needs.{needs}
-use Rattle.runner.proofs.report_for.Statement.{statement}
-use Rattle.runner.proofs.report_for.Tie as tie
-use Rattle.runner.proofs.report_for.Reads as reads
-use Rattle.runner.proofs.report_for.Lts as lts
+use Rattle.report.proofs.report_for.Statement.{statement}
+use Rattle.report.proofs.report_for.Tie as tie
+use Rattle.report.proofs.report_for.Reads as reads
+use Rattle.report.proofs.report_for.Lts as lts
 use Rattle.judge.proofs.judge_model.Reads as judge-model-reads
 use Rattle.judge.proofs.judge_tableau.Reads as judge-tableau-reads
-use Rattle.runner.proofs.model_report.Reads as model-report-reads
-use Rattle.runner.proofs.tableau_report.Reads as tableau-report-reads
+use Rattle.report.proofs.model_report.Reads as model-report-reads
+use Rattle.report.proofs.tableau_report.Reads as tableau-report-reads
 use Rattle.wire.proofs.begins.Reads as begins-reads
 
 slice-aggregate-begins : tie.Need-slice-aggregate-begins

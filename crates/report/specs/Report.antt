@@ -10,7 +10,7 @@ use Rattle.decision.specs.Judged.{Judged, met, unmet}
 use Rattle.model.specs.Judging as model
 use Rattle.tableau.specs.declared.finding.Closed.{Closed}
 use Rattle.tableau.specs.Judging as tableau
-use Rattle.runner.specs.declared.Report.{Report}
+use Rattle.report.specs.declared.Report.{Report}
 
 -- "Lent areas are long enough": the bytes of the area that the program lends
 abbrev pub areaLent : ℕ

@@ -1,0 +1,4 @@
+-- In the order of reading.
+pub mod Report
+pub mod Line
+pub mod Filling
