@@ -3,4 +3,3 @@ pub mod Together
 pub mod Packed
 pub mod Fitting
 pub mod Unpacked
-pub mod Readings

@@ -2,3 +2,4 @@
 pub mod Report
 pub mod Line
 pub mod Filling
+pub mod Readings
