@@ -52,7 +52,7 @@ fn report_for(pattern: &[u8], proposal: &[u8]) -> Report
     ensures { λ r. ⌜ r ≡ reportOf (now (pattern .entry)) (now (proposal .entry)) ⌝ }
 {
     let mut area = [0u8; AREA];
-    if wire::begins(proposal, b"TAB") {
+    if wire::begins(proposal, &tableau::MARK) {
         return tableau_report(judge_tableau(pattern, proposal, &mut area));
     }
     model_report(judge_model(pattern, proposal, &mut area))

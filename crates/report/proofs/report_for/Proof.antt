@@ -30,7 +30,7 @@ tableau-report-requires c κs = search needs
 returns : tie.Need-returns
 returns c =
     let begins = c .before .before .before .before in
-    rw (c .tableau-report .ensures, c .before .before .judge-tableau .ensures .0, ← rw (begins .if1 .taken) at (begins .before .begins .ensures)) refl
+    rw (c .tableau-report .ensures, c .before .before .judge-tableau .ensures .finding, ← rw (begins .if1 .taken) at (begins .before .begins .ensures)) refl
 
 slice-aggregate-judge-model : tie.Need-slice-aggregate-judge-model
 slice-aggregate-judge-model c = search needs
@@ -44,7 +44,7 @@ model-report-requires c κs = search needs
 returns-2 : tie.Need-returns-2
 returns-2 c =
     let begins = c .before .before .before .before in
-    rw (c .model-report .ensures, c .before .before .judge-model .ensures .0, ← rw (begins .if1 .left) at (begins .before .begins .ensures)) refl
+    rw (c .model-report .ensures, c .before .before .judge-model .ensures .finding, ← rw (begins .if1 .left) at (begins .before .begins .ensures)) refl
 
 pub report-for-spec : {M : Type 1} → statement M
 report-for-spec =
