@@ -1,7 +1,6 @@
 -- What an answer tells, taken apart as include/riser.h does it; and that packing loses nothing.
 -- Assumes nothing.
-use mathlib.Core.Path.{_≡_, refl, sym, _∙_, ap, subst}
-use mathlib.Core.Bool.{Bool, true, false}
+use mathlib.Core.Path.{_≡_, sym, _∙_, ap, subst}
 use mathlib.Core.List.{List}
 use Prim.Native.Nat.{ℕ, _+_, _*_, _/_, _%_, _^_, _<_}
 use native.Mathlib.Omega.{arith}
@@ -57,12 +56,12 @@ unpackTableau answer =
 -- ---- laws
 
 -- the answer's kind and parts are these
-pub record Parts (answer kind first second third fourth : ℕ) : Type 0 where
-  pub kind-is : answerKind answer ≡ kind
-  pub first-is : partOf 0 answer ≡ first
-  pub second-is : partOf 1 answer ≡ second
-  pub third-is : partOf 2 answer ≡ third
-  pub fourth-is : partOf 3 answer ≡ fourth
+record Parts (answer kind first second third fourth : ℕ) : Type 0 where
+  kind-is : answerKind answer ≡ kind
+  first-is : partOf 0 answer ≡ first
+  second-is : partOf 1 answer ≡ second
+  third-is : partOf 2 answer ≡ third
+  fourth-is : partOf 3 answer ≡ fourth
 
 -- from bit k on, the next part and what stands above it
 next-part : (answer k part above : ℕ) → Narrow part → answer / 2 ^ k ≡ part + 16384 * above
@@ -77,7 +76,7 @@ above-kind : (kind above : ℕ) → kind < 16 → (kind + 16 * above) / 16 ≡ a
 above-kind kind above l = omega (arith, l)
 
 -- a packed answer has the parts that were packed
-pub parts-packed : (kind first second third fourth : ℕ) → kind < 16 → Narrow first → Narrow second → Narrow third → Narrow fourth
+parts-packed : (kind first second third fourth : ℕ) → kind < 16 → Narrow first → Narrow second → Narrow third → Narrow fourth
     → Parts (packed kind first second third fourth) kind first second third fourth
 unfolding packed
 parts-packed kind first second third fourth l a b c d =

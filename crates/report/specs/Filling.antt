@@ -43,7 +43,7 @@ put-is : (buf text : List ℕ) (at : ℕ) → at ≤ length buf → putAt buf at
 put-is buf text at h = ap (λ (n : ℕ). take at buf ++ text ++ drop n buf) (sym (length-put buf text at h))
 
 -- two texts, one put behind the other, are one text
-pub put-two : (buf s t : List ℕ) (at : ℕ) → at ≤ length buf → putAt (putAt buf at s) (at + length s) t ≡ putAt buf at (s ++ t)
+put-two : (buf s t : List ℕ) (at : ℕ) → at ≤ length buf → putAt (putAt buf at s) (at + length s) t ≡ putAt buf at (s ++ t)
 put-two buf s t at h =
     ap (λ (x : List ℕ). putAt x (at + length s) t) (put-is buf s at h)
     ∙ ap (λ (n : ℕ). putAt (written (take at buf ++ s) buf) n t) (sym (length-put buf s at h))

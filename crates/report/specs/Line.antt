@@ -1,12 +1,10 @@
 -- The bytes of the line that the bench program prints, for each report.
 -- Assumes nothing.
-use mathlib.Core.Path.{_≡_, refl, sym, _∙_, ap}
-use mathlib.Core.List as list
-use mathlib.Core.List.{List, _++_}
-use Prim.Native.Nat.{ℕ, zero, suc, _+_, _-_, _*_, _/_, _%_, _^_, _≤_, _<_}
-use Prim.Native.String.{String, [], _∷_}
+use mathlib.Core.List.{List, [], _∷_, _++_}
+use Prim.Native.Nat.{ℕ, zero, suc, _+_, _/_, _%_}
+use Prim.Native.String as string
+use Prim.Native.String.{String}
 use Prim.Native.Char.{code}
-use native.Mathlib.Omega.{arith}
 use lib.Dec.{ltb}
 use lib.ListN.{length, drop}
 use Rattle.wire.specs.Choice.{pick}
@@ -15,13 +13,13 @@ use Rattle.report.specs.Report.{reportOf}
 
 -- the bytes of a text whose characters are ASCII
 abbrev pub text : String → List ℕ
-text [] = list.[]
-text (c ∷ cs) = list._∷_ (code c) (text cs)
+text string.[] = []
+text (string._∷_ c cs) = code c ∷ text cs
 
--- the last digits of a number, at most so many, without leading zeros: the last one, and before it those of its tenth if it has any
+-- the digits of a number, at most so many, without leading zeros: the last one, and before it those of the tenth of a number over 9
 unfoldable pub digitsWithin : ℕ → ℕ → List ℕ
-digitsWithin zero n = list.[]
-digitsWithin (suc most) n = let before = digitsWithin most (n / 10) in pick (ltb n 10) list.[] before ++ list._∷_ (48 + n % 10) list.[]
+digitsWithin zero n = []
+digitsWithin (suc most) n = let before = digitsWithin most (n / 10) in pick (ltb n 10) [] before ++ ((code "0" + n % 10) ∷ [])
 
 -- a number in decimal: it has no more than n + 1 digits
 abbrev pub decimal : ℕ → List ℕ

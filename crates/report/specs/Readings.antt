@@ -11,7 +11,7 @@ use Rattle.pattern.specs.declared.types.Comparison.{Comparison}
 use Rattle.pattern.specs.Logic.Syntax.{NExp}
 use Rattle.pattern.specs.Logic.Semantics.{Model, Naming, Holds}
 use Rattle.pattern.specs.Logic.Finite.{Finite, Named, modelOf, namingOf}
-use Rattle.pattern.specs.Checks.Finding.{Finding, found, refused, Check, passes, refuses}
+use Rattle.pattern.specs.Checks.Finding.{found, refused, Check, passes, refuses}
 use Rattle.pattern.specs.Checks.Range.{someBelow, eachBelow}
 use Rattle.pattern.specs.File.Fields.{eachField}
 use Rattle.pattern.specs.File.Entries.{sameBytes}

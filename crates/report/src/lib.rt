@@ -18,7 +18,7 @@ ghost use Rattle.report.specs.Report.{modelReport, tableauReport, report
 ghost use Rattle.report.specs.Line.{lineFor, written};
 
 // What the line that is printed says: its word and its numbers.
-pub enum Report {
+enum Report {
     Closed(u16, u16, u16, u16),
     Met(u8, u8),
     Unmet,

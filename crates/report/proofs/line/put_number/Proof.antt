@@ -1,9 +1,7 @@
 -- `report::line::put_number` meets its contract: what `io` spells are the number's digits, five at most.
 -- Assumes nothing.
 use borrow.Author.Needs.{needs}
-use mathlib.Core.Path.{ap}
 use native.Mathlib.Omega.{arith}
-use Prim.Native.Nat.{ℕ, _+_}
 use Rattle.report.specs.Filling.{five-digits, number-put}
 use Rattle.report.proofs.line.put_number.Statement.{statement}
 use Rattle.report.proofs.line.put_number.Tie as tie
