@@ -2,7 +2,8 @@
 -- Assumes nothing.
 use borrow.Author.Needs.{needs}
 use native.Mathlib.Omega.{arith}
-use Rattle.report.specs.Filling.{five-digits, number-put}
+use Rattle.report.specs.Spelling.{five-digits}
+use Rattle.report.specs.Filling.{number-put}
 use Rattle.report.proofs.line.put_number.Statement.{statement}
 use Rattle.report.proofs.line.put_number.Tie as tie
 use Rattle.report.proofs.line.put_number.Reads as reads
