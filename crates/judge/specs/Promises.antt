@@ -34,7 +34,7 @@ NeverClosed bs = (ts : List ℕ) (size : ℕ) → IsClosed (tableau.judgingOf bs
 
 -- Judging ds as a model of the pattern bs, with the area that was lent, finds f and leaves the area so.
 pub record ModelPromise (bs ds lent : List ℕ) (f : Finding Judged) (left : List ℕ) : Type 0 where
-  -- demand 1: any bytes give the finding or refusal of the definition, with its numbers, and the lent bytes are equated too
+  -- demand 1: any bytes give the definition's finding or refusal, with its numbers, and the definition's bytes in the area
   pub finding : f ≡ model.judgingOf bs ds (length lent)
   pub area : left ≡ model.areaAfter bs f lent
   -- demand 2: met and unmet are found exactly where they are so under the satisfaction relation
@@ -44,15 +44,15 @@ pub record ModelPromise (bs ds lent : List ℕ) (f : Finding Judged) (left : Lis
 
 -- Judging ts as a tableau for the pattern bs, with the area that was lent, finds f and leaves the area so.
 pub record TableauPromise (bs ts lent : List ℕ) (f : Finding Closed) (left : List ℕ) : Type 0 where
-  -- demand 1
+  -- demand 1: likewise
   pub finding : f ≡ tableau.judgingOf bs ts (length lent)
   pub area : left ≡ tableau.areaAfter f lent
-  -- demand 2: closed is found exactly where the steps close the branch, and their counts are these
+  -- demand 2: closed is found, with these counts, exactly where the steps close the branch within the limits
   pub meaning : (c : Closed) → (f ≡ found c) ↔ Closure bs ts (length lent) c
-  -- demand 3: where a tableau closes, no finite data model of any size has a node where the root holds, and no model is met
-  pub excludes : (c : Closed) → f ≡ found c → Excluded bs
-  pub models : (c : Closed) → f ≡ found c → NeverMet bs
-  -- a branch more than forks
-  pub clashes : (c : Closed) → f ≡ found c → c .clashes ≡ c .forks + 1
   -- "Most lines is at most 1 + 2 × (steps − clashes)."
   pub bound : (c : Closed) → f ≡ found c → c .most ≤ 1 + 2 * (c .steps - c .clashes)
+  -- demand 3: where a tableau closes, no finite data model of any size has a node where the root holds, no model is met, and the clashes are
+  -- one more than the forks
+  pub excludes : (c : Closed) → f ≡ found c → Excluded bs
+  pub models : (c : Closed) → f ≡ found c → NeverMet bs
+  pub clashes : (c : Closed) → f ≡ found c → c .clashes ≡ c .forks + 1

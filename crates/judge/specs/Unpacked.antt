@@ -29,7 +29,7 @@ pub data Told (A : Type 0) : Type 0 where
 abbrev pub partOf : ℕ → ℕ → ℕ
 partOf k answer = answer / 2 ^ (4 + 14 * k) % 16384
 
--- this, if the answer is of the kind, otherwise what the answer tells as another
+-- this finding, if the answer is of the kind, otherwise what it tells as one of another kind
 abbrev pub toldAs : {A : Type 0} → ℕ → ℕ → Finding A → Told A → Told A
 toldAs kind answer f other = pick (eqb (answerKind answer) kind) (told f) other
 
