@@ -1,6 +1,6 @@
 -- In the order of reading.
+pub mod Promises
 pub mod Together
 pub mod Packed
-pub mod Fitting
+pub mod Narrow
 pub mod Unpacked
-pub mod Readings

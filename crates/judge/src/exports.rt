@@ -1,6 +1,7 @@
 // What programs in C and Rust link: reading a pattern, judging a model and judging a tableau, over
 // byte slices. Each answers one number, a packed finding; include/riser.h says how to take it apart.
-// Packing loses nothing: taken apart, the answer is the finding (each function's clause `finding`).
+// Packing loses nothing: taken apart, the answer tells the finding (each function's clause `finding`),
+// and of what it tells the judgement's promise holds (`promise`).
 use crate::judge_model;
 use crate::judge_tableau;
 use model::judge::ModelFinding;
@@ -8,21 +9,19 @@ use pattern::finding::PatternRead;
 use pattern_read::read;
 use tableau::finding::TableauFinding;
 ghost use mathlib.Core.Path.{_≡_};
-ghost use mathlib.Core.Logic.{_↔_};
-ghost use Prim.Native.Nat.{_+_, _-_, _*_, _≤_};
+ghost use Prim.Native.Nat.{_≤_};
 ghost use lib.ListN.{length};
-ghost use Rattle.pattern.specs.Checks.Finding.{found};
+ghost use Rattle.pattern.specs.Checks.Finding.{Finding};
 ghost use Rattle.pattern.specs.File.Reading as reading;
 ghost use Rattle.decision.specs.Judged.{Judged};
 ghost use Rattle.model.specs.Judging as model-specs;
 ghost use Rattle.tableau.specs.declared.finding.Closed.{Closed};
 ghost use Rattle.tableau.specs.Judging as tableau-specs;
-ghost use Rattle.tableau.specs.Closure.{Closure};
 ghost use Rattle.tableau.specs.Soundness.{Excluded};
-ghost use Rattle.judge.specs.Together.{NeverMet, NeverClosed};
+ghost use Rattle.judge.specs.Promises.{NeverMet, NeverClosed, ModelPromise, TableauPromise};
 ghost use Rattle.judge.specs.Packed as packed-specs;
-ghost use Rattle.judge.specs.Packed.{metKind, closedKind, kindOf, refusedAnswer, readAnswer, modelAnswer, tableauAnswer};
-ghost use Rattle.judge.specs.Unpacked.{unpackRead, unpackModel, unpackTableau};
+ghost use Rattle.judge.specs.Packed.{metKind, closedKind, answerKind, refusedAnswer, readAnswer, modelAnswer, tableauAnswer};
+ghost use Rattle.judge.specs.Unpacked.{told, unpackRead, unpackModel, unpackTableau};
 
 // The kinds of an answer.
 const REFUSED: u8 = 1;
@@ -91,7 +90,7 @@ fn tableau_answer(f: TableauFinding) -> u64
 #[no_mangle]
 pub extern "C" fn riser_read(p: &[u8]) -> u64
     ensures answer { λ r. ⌜ r ≡ readAnswer (reading.readingOf (now (p .entry))) ⌝ }
-    ensures finding { λ r. ⌜ unpackRead r ≡ reading.readingOf (now (p .entry)) ⌝ }
+    ensures finding { λ r. ⌜ unpackRead r ≡ told (reading.readingOf (now (p .entry))) ⌝ }
 {
     read_answer(read(p))
 }
@@ -100,10 +99,9 @@ pub extern "C" fn riser_read(p: &[u8]) -> u64
 #[no_mangle]
 pub extern "C" fn riser_judge_model(p: &[u8], d: &[u8], area: &mut [u8]) -> u64
     ensures answer { λ r. ⌜ r ≡ modelAnswer (model-specs.judgingOf (now (p .entry)) (now (d .entry)) (length (now (area .entry)))) ⌝ }
-    ensures finding { λ r. ⌜ unpackModel r ≡ model-specs.judgingOf (now (p .entry)) (now (d .entry)) (length (now (area .entry))) ⌝ }
-    ensures area { λ r. ⌜ now (area .exit) ≡ model-specs.areaAfter (now (p .entry)) (model-specs.judgingOf (now (p .entry)) (now (d .entry)) (length (now (area .entry)))) (now (area .entry)) ⌝ }
-    ensures meaning { λ r. ⌜ ((j : Judged) → (unpackModel r ≡ found j) ↔ model-specs.Judgement (now (p .entry)) (now (d .entry)) (length (now (area .entry))) j) ⌝ }
-    ensures tableaux { λ r. ⌜ (kindOf r ≡ metKind → NeverClosed (now (p .entry))) ⌝ }
+    ensures finding { λ r. ⌜ unpackModel r ≡ told (model-specs.judgingOf (now (p .entry)) (now (d .entry)) (length (now (area .entry)))) ⌝ }
+    ensures promise { λ r. ⌜ ((f : Finding Judged) → unpackModel r ≡ told f → ModelPromise (now (p .entry)) (now (d .entry)) (now (area .entry)) f (now (area .exit))) ⌝ }
+    ensures tableaux { λ r. ⌜ (answerKind r ≡ metKind → NeverClosed (now (p .entry))) ⌝ }
 {
     model_answer(judge_model(p, d, area))
 }
@@ -113,13 +111,10 @@ pub extern "C" fn riser_judge_model(p: &[u8], d: &[u8], area: &mut [u8]) -> u64
 #[no_mangle]
 pub extern "C" fn riser_judge_tableau(p: &[u8], t: &[u8], area: &mut [u8]) -> u64
     ensures answer { λ r. ⌜ r ≡ tableauAnswer (tableau-specs.judgingOf (now (p .entry)) (now (t .entry)) (length (now (area .entry)))) ⌝ }
-    ensures finding { λ r. ⌜ unpackTableau r ≡ tableau-specs.judgingOf (now (p .entry)) (now (t .entry)) (length (now (area .entry))) ⌝ }
-    ensures area { λ r. ⌜ now (area .exit) ≡ tableau-specs.areaAfter (tableau-specs.judgingOf (now (p .entry)) (now (t .entry)) (length (now (area .entry)))) (now (area .entry)) ⌝ }
-    ensures meaning { λ r. ⌜ ((c : Closed) → (unpackTableau r ≡ found c) ↔ Closure (now (p .entry)) (now (t .entry)) (length (now (area .entry))) c) ⌝ }
-    ensures excludes { λ r. ⌜ (kindOf r ≡ closedKind → Excluded (now (p .entry))) ⌝ }
-    ensures models { λ r. ⌜ (kindOf r ≡ closedKind → NeverMet (now (p .entry))) ⌝ }
-    ensures clashes { λ r. ⌜ ((c : Closed) → unpackTableau r ≡ found c → c .clashes ≡ c .forks + 1) ⌝ }
-    ensures bound { λ r. ⌜ ((c : Closed) → unpackTableau r ≡ found c → c .most ≤ 1 + 2 * (c .steps - c .clashes)) ⌝ }
+    ensures finding { λ r. ⌜ unpackTableau r ≡ told (tableau-specs.judgingOf (now (p .entry)) (now (t .entry)) (length (now (area .entry)))) ⌝ }
+    ensures promise { λ r. ⌜ ((f : Finding Closed) → unpackTableau r ≡ told f → TableauPromise (now (p .entry)) (now (t .entry)) (now (area .entry)) f (now (area .exit))) ⌝ }
+    ensures excludes { λ r. ⌜ (answerKind r ≡ closedKind → Excluded (now (p .entry))) ⌝ }
+    ensures models { λ r. ⌜ (answerKind r ≡ closedKind → NeverMet (now (p .entry))) ⌝ }
 {
     tableau_answer(judge_tableau(p, t, area))
 }

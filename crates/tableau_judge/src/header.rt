@@ -50,7 +50,7 @@ pub fn read_header(p: &[u8], n: u8, t: &[u8]) -> HeaderRead
     if t.len() < HEADER {
         return HeaderRead::Refused(HeaderRefusal::Mark);
     }
-    if !wire::begins(t, b"TAB") {
+    if !wire::begins(t, &tableau::MARK) {
         return HeaderRead::Refused(HeaderRefusal::Mark);
     }
     if wire::word(t, 3) != 1 {

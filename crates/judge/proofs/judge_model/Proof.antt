@@ -1,9 +1,8 @@
--- `judge::judge_model` meets its contract: it is what `model` found, and where that is met no tableau closes.
+-- `judge::judge_model` meets its contract: it is what `model` found, so it keeps the promise.
 -- Assumes nothing.
+use Rattle.model.specs.Judging.{findingOf}
+use Rattle.judge.specs.Together.{model-promised}
 use borrow.Author.Needs.{needs}
-use mathlib.Core.Path.{sym, _∙_}
-use lib.ListN.{length}
-use Rattle.judge.specs.Together.{met-never-closed}
 use Rattle.judge.proofs.judge_model.Statement.{statement}
 use Rattle.judge.proofs.judge_model.Tie as tie
 use Rattle.judge.proofs.judge_model.Reads as reads
@@ -18,15 +17,9 @@ same-length c = search needs
 
 returns : tie.Need-returns
 returns c =
-    let found-by = c .before .before .judge in
+    let judged = c .before .before .judge in
     let a = c .before .before .before .before .before .before .before .args in
-    let h = found-by .ensures in (
-      h .0,
-      (
-        h .1 .0,
-        (h .1 .1, λ lowest number e. met-never-closed (a .p .now) (a .d .now) (length (a .area .now)) lowest number (sym (h .0) ∙ e)),
-      ),
-    )
+    model-promised (a .p .now) (a .d .now) (a .area .now) _ (findingOf (judged .result)) (judged .ensures .0) (judged .ensures .1 .0)
 
 pub judge-model-spec : {M : Type 1} → statement M
 judge-model-spec = tie.close (tie.spec judge-requires same-length returns)

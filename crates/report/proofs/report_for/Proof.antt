@@ -1,15 +1,15 @@
--- `runner::report_for` meets its contract: the report says what the judgement of the proposal's mark finds.
+-- `report::report_for` meets its contract: the report says what the judgement of the proposal's mark finds.
 -- Assumes nothing.
 use mathlib.Core.Path.{refl}
 use borrow.Author.Needs.{needs}
-use Rattle.runner.proofs.report_for.Statement.{statement}
-use Rattle.runner.proofs.report_for.Tie as tie
-use Rattle.runner.proofs.report_for.Reads as reads
-use Rattle.runner.proofs.report_for.Lts as lts
+use Rattle.report.proofs.report_for.Statement.{statement}
+use Rattle.report.proofs.report_for.Tie as tie
+use Rattle.report.proofs.report_for.Reads as reads
+use Rattle.report.proofs.report_for.Lts as lts
 use Rattle.judge.proofs.judge_model.Reads as judge-model-reads
 use Rattle.judge.proofs.judge_tableau.Reads as judge-tableau-reads
-use Rattle.runner.proofs.model_report.Reads as model-report-reads
-use Rattle.runner.proofs.tableau_report.Reads as tableau-report-reads
+use Rattle.report.proofs.model_report.Reads as model-report-reads
+use Rattle.report.proofs.tableau_report.Reads as tableau-report-reads
 use Rattle.wire.proofs.begins.Reads as begins-reads
 
 slice-aggregate-begins : tie.Need-slice-aggregate-begins
@@ -30,7 +30,7 @@ tableau-report-requires c κs = search needs
 returns : tie.Need-returns
 returns c =
     let begins = c .before .before .before .before in
-    rw (c .tableau-report .ensures, c .before .before .judge-tableau .ensures .0, ← rw (begins .if1 .taken) at (begins .before .begins .ensures)) refl
+    rw (c .tableau-report .ensures, c .before .before .judge-tableau .ensures .finding, ← rw (begins .if1 .taken) at (begins .before .begins .ensures)) refl
 
 slice-aggregate-judge-model : tie.Need-slice-aggregate-judge-model
 slice-aggregate-judge-model c = search needs
@@ -44,7 +44,7 @@ model-report-requires c κs = search needs
 returns-2 : tie.Need-returns-2
 returns-2 c =
     let begins = c .before .before .before .before in
-    rw (c .model-report .ensures, c .before .before .judge-model .ensures .0, ← rw (begins .if1 .left) at (begins .before .begins .ensures)) refl
+    rw (c .model-report .ensures, c .before .before .judge-model .ensures .finding, ← rw (begins .if1 .left) at (begins .before .begins .ensures)) refl
 
 pub report-for-spec : {M : Type 1} → statement M
 report-for-spec =

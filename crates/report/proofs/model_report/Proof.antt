@@ -1,11 +1,11 @@
--- `runner::model_report` meets its contract, case by case.
+-- `report::model_report` meets its contract, case by case.
 -- Assumes nothing.
 use mathlib.Core.Path.{refl}
 use borrow.Author.Needs.{needs}
-use Rattle.runner.proofs.model_report.Statement.{statement}
-use Rattle.runner.proofs.model_report.Tie as tie
-use Rattle.runner.proofs.model_report.Reads as reads
-use Rattle.runner.proofs.model_report.Lts as lts
+use Rattle.report.proofs.model_report.Statement.{statement}
+use Rattle.report.proofs.model_report.Tie as tie
+use Rattle.report.proofs.model_report.Reads as reads
+use Rattle.report.proofs.model_report.Lts as lts
 use Rattle.model.proofs.judge.JudgeRefusal.number.Reads as number-reads
 use Rattle.model.proofs.judge.JudgeRefusal.place.Reads as place-reads
 

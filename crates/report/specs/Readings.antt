@@ -1,16 +1,17 @@
--- 01's bench readings A to J, in one list, shown of the definitions by one result.
+-- 01's bench readings A to J, in one list, shown of the definitions by one result: what the program prints, what reading a pattern gives,
+-- and what judging every model gives.
 -- Assumes nothing.
 use mathlib.Core.Path.{_≡_, refl, _∙_, ap, subst}
 use mathlib.Core.Logic.{_⊎_, inl, inr}
 use mathlib.Core.List.{List, [], _∷_, _++_}
 use Prim.Native.Nat.{ℕ, _≤_}
-use borrow.Author.Tests.{le-ltb}
+use Prim.Native.String.{String}
 use Rattle.nodeset.specs.Below.{lowestBelow, countBelow}
 use Rattle.pattern.specs.declared.types.Comparison.{Comparison}
 use Rattle.pattern.specs.Logic.Syntax.{NExp}
 use Rattle.pattern.specs.Logic.Semantics.{Model, Naming, Holds}
 use Rattle.pattern.specs.Logic.Finite.{Finite, Named, modelOf, namingOf}
-use Rattle.pattern.specs.Checks.Finding.{Finding, found, refused, Check, passes, refuses}
+use Rattle.pattern.specs.Checks.Finding.{found, refused, Check, passes, refuses}
 use Rattle.pattern.specs.Checks.Range.{someBelow, eachBelow}
 use Rattle.pattern.specs.File.Fields.{eachField}
 use Rattle.pattern.specs.File.Entries.{sameBytes}
@@ -18,7 +19,7 @@ use Rattle.pattern.specs.File.Valid.{valid}
 use Rattle.pattern.specs.File.Reading.{mark, headerCheck, entryCheck, rootCheck, patternCheck, readingOf}
 use Rattle.pattern.specs.Meaning.Expression.{end, nodeWithin, pathWithin, nodeAt, rootOf}
 use Rattle.decision.specs.Decision.{holdsTest, leadsTest}
-use Rattle.decision.specs.Judged.{Judged, met, unmet, judgedBy, judgedOf, judged-says}
+use Rattle.decision.specs.Judged.{unmet, judgedBy, judgedOf, judged-says}
 use Rattle.pattern.specs.Meaning.Names.{usesName}
 use Rattle.model_file.specs.Layout as layout
 use Rattle.model_file.specs.Contents.{leadsIn, nodeNamed, modelFrom}
@@ -29,9 +30,9 @@ use Rattle.model.specs.Judging.{areaNeed, judgingCheck, judgingOf, checks-pass,
 use Rattle.lines.specs.Lines.{branchHas}
 use Rattle.rules.specs.Rules.{ruleAt}
 use Rattle.steps.specs.Steps.{stepAt, stepsFrom, stepping}
-use Rattle.tableau.specs.declared.finding.Closed.{Closed}
 use Rattle.tableau.specs.Run.{run}
 use Rattle.tableau.specs.Judging as tableau
+use Rattle.report.specs.Line.{text, digitsWithin, lineFor}
 
 -- each of the claims
 abbrev pub All : List (Type 0) → Type 0
@@ -50,27 +51,24 @@ tableauFile start s steps = tableau.mark ++ (1 ∷ 0 ∷ start ∷ s ∷ 0 ∷ s
 abbrev pub step : ℕ → ℕ → ℕ → ℕ → List ℕ
 step rule P Q argument = rule ∷ P ∷ 0 ∷ Q ∷ 0 ∷ argument ∷ []
 
--- judging gives this with every working area that is long enough
-abbrev pub Finds : List ℕ → List ℕ → Finding Closed → Type 0
-Finds bs ts f = (size : ℕ) → tableau.areaNeed ≤ size → tableau.judgingOf bs ts size ≡ f
-
-abbrev pub closed : ℕ → ℕ → ℕ → ℕ → Finding Closed
-closed steps clashes forks most = found (record { steps = steps; clashes = clashes; forks = forks; most = most })
+-- the program prints this line of a pattern and a proposal
+abbrev pub Prints : List ℕ → List ℕ → String → Type 0
+Prints bs xs line = lineFor bs xs ≡ text line ++ text "\n"
 
 -- "A: 1,0,0,0; 5,0,0,0; 3,1,0,0; 4,1,2,0. Start 0; steps (rule P Q arg) 2 0 0 0; 1 2 0 0; 21 1 3 0. The program prints `closed 3 1 0 4`."
 abbrev pub patternA : List ℕ
 patternA = patternFile 4 (1 ∷ 0 ∷ 0 ∷ 0 ∷ 5 ∷ 0 ∷ 0 ∷ 0 ∷ 3 ∷ 1 ∷ 0 ∷ 0 ∷ 4 ∷ 1 ∷ 2 ∷ 0 ∷ [])
 
 abbrev pub A : Type 0
-A = Finds patternA (tableauFile 0 3 (step 2 0 0 0 ++ step 1 2 0 0 ++ step 21 1 3 0)) (closed 3 1 0 4)
+A = Prints patternA (tableauFile 0 3 (step 2 0 0 0 ++ step 1 2 0 0 ++ step 21 1 3 0)) "closed 3 1 0 4"
 
 -- "B: A with its last step dropped: `refused 26 2`."
 abbrev pub B : Type 0
-B = Finds patternA (tableauFile 0 2 (step 2 0 0 0 ++ step 1 2 0 0)) (refused 26 2)
+B = Prints patternA (tableauFile 0 2 (step 2 0 0 0 ++ step 1 2 0 0)) "refused 26 2"
 
 -- "C: A with that step twice: `refused 25 3`."
 abbrev pub C : Type 0
-C = Finds patternA (tableauFile 0 4 (step 2 0 0 0 ++ step 1 2 0 0 ++ step 21 1 3 0 ++ step 21 1 3 0)) (refused 25 3)
+C = Prints patternA (tableauFile 0 4 (step 2 0 0 0 ++ step 1 2 0 0 ++ step 21 1 3 0 ++ step 21 1 3 0)) "refused 25 3"
 
 -- "D: 1,0,0,0; 1,1,0,0; 4,0,1,0; 3,2,0,0; 4,0,3,0; 4,1,4,0. Start 0; steps 2 0 0 0; 2 2 0 0; 1 4 0 0; 3 5 0 0; 21 3 6 0; 21 1 6 0:
 -- `closed 6 2 1 7`."
@@ -80,8 +78,8 @@ patternD = patternFile 6
 
 abbrev pub D : Type 0
 D =
-    Finds patternD
-    (tableauFile 0 6 (step 2 0 0 0 ++ step 2 2 0 0 ++ step 1 4 0 0 ++ step 3 5 0 0 ++ step 21 3 6 0 ++ step 21 1 6 0)) (closed 6 2 1 7)
+    Prints patternD
+    (tableauFile 0 6 (step 2 0 0 0 ++ step 2 2 0 0 ++ step 1 4 0 0 ++ step 3 5 0 0 ++ step 21 3 6 0 ++ step 21 1 6 0)) "closed 6 2 1 7"
 
 -- "E: n = 0, length 6: 3."
 abbrev pub E : Type 0
@@ -99,10 +97,6 @@ modelFile n m k records = layout.mark ++ (1 ∷ 0 ∷ n ∷ m ∷ k ∷ 0 ∷ re
 abbrev pub node : ℕ → List ℕ
 node v = 0 ∷ 0 ∷ 0 ∷ 0 ∷ v ∷ 0 ∷ 0 ∷ 0 ∷ 0 ∷ 0 ∷ 0 ∷ 0 ∷ []
 
--- judging gives this with every working area that is long enough
-abbrev pub Judges : List ℕ → List ℕ → Judged → Type 0
-Judges bs ds j = (size : ℕ) → areaNeed bs ≤ size → judgingOf bs ds size ≡ found j
-
 -- the first four entries of G and H: forward and reverse settings, same and differ
 abbrev pub settings : List ℕ
 settings =
@@ -112,13 +106,13 @@ settings =
 -- 3; channel 0 values 0, 10, 10, 20; no names, all else zero: `met 0 1`."
 abbrev pub G : Type 0
 G =
-    Judges (patternFile 5 (settings ++ (4 ∷ 2 ∷ 3 ∷ 0 ∷ [])))
+    Prints (patternFile 5 (settings ++ (4 ∷ 2 ∷ 3 ∷ 0 ∷ [])))
     (modelFile 4 0 3 (node 0 ++ node 10 ++ node 10 ++ node 20 ++ (0 ∷ 0 ∷ 1 ∷ 0 ∷ 1 ∷ 2 ∷ 0 ∷ 1 ∷ 3 ∷ [])))
-    (met 0 1)
+    "met 0 1"
 
 -- "H: not same and not differ over G's paths, one node without edges: `met 0 1`."
 abbrev pub H : Type 0
-H = Judges (patternFile 7 (settings ++ (3 ∷ 2 ∷ 0 ∷ 0 ∷ 3 ∷ 3 ∷ 0 ∷ 0 ∷ 4 ∷ 4 ∷ 5 ∷ 0 ∷ []))) (modelFile 1 0 0 (node 0)) (met 0 1)
+H = Prints (patternFile 7 (settings ++ (3 ∷ 2 ∷ 0 ∷ 0 ∷ 3 ∷ 3 ∷ 0 ∷ 0 ∷ 4 ∷ 4 ∷ 5 ∷ 0 ∷ []))) (modelFile 1 0 0 (node 0)) "met 0 1"
 
 -- "I: root 7,0,255,255: every model unmet": every finite data model; every model file that passes its checks; and any bytes whatever as the
 -- model, with any area, are unmet or refused
@@ -128,7 +122,7 @@ patternI = patternFile 1 (7 ∷ 0 ∷ 255 ∷ 255 ∷ [])
 abbrev pub I : Type 0
 I =
     ((F : Finite) → Named F → judgedOf F (rootOf patternI) ≡ unmet)
-    × ((ds : List ℕ) → ValidModel ds → Judges patternI ds unmet)
+    × ((ds : List ℕ) (size : ℕ) → ValidModel ds → areaNeed patternI ≤ size → judgingOf patternI ds size ≡ found unmet)
     × ((ds : List ℕ) (size : ℕ)
     → (judgingOf patternI ds size ≡ found unmet) ⊎ ((number : ℕ) × ((place : ℕ) × (judgingOf patternI ds size ≡ refused number place))))
 
@@ -142,6 +136,8 @@ J =
 
 abbrev pub readings : List (Type 0)
 readings = A ∷ B ∷ C ∷ D ∷ E ∷ F ∷ G ∷ H ∷ I ∷ J ∷ []
+
+-- ---- laws
 
 -- a node differs from itself on no channel
 root-I : rootOf patternI ≡ NExp.compare Comparison.Differ 0 end end
@@ -164,8 +160,8 @@ reads-I = refl
 I-holds : I
 I-holds = (always-unmet, files, any)
   where
-    files : (ds : List ℕ) → ValidModel ds → Judges patternI ds unmet
-    files ds ok size l =
+    files : (ds : List ℕ) (size : ℕ) → ValidModel ds → areaNeed patternI ≤ size → judgingOf patternI ds size ≡ found unmet
+    files ds size ok l =
         judging-finds patternI ds size (checks-pass patternI ds size .1 (valid patternI 1 reads-I, l, ok)) ∙ ap found (always-unmet (modelFrom ds) (all-named ok))
 
     any : (ds : List ℕ) (size : ℕ)
@@ -174,21 +170,9 @@ I-holds = (always-unmet, files, any)
       where
         go : (c : Check) → judgingCheck patternI ds size ≡ c
             → (judgingOf patternI ds size ≡ found unmet) ⊎ ((number : ℕ) × ((place : ℕ) × (judgingOf patternI ds size ≡ refused number place)))
-        go passes e = inl (files ds (checks-pass patternI ds size .0 e .2) size (checks-pass patternI ds size .0 e .1))
+        go passes e = inl (files ds size (checks-pass patternI ds size .0 e .2) (checks-pass patternI ds size .0 e .1))
         go (refuses number place) e = inr (number, (place, judging-refuses patternI ds size number place e))
 
 pub readings-hold : All readings
-unfolding readingOf patternCheck headerCheck entryCheck rootCheck eachField someBelow eachBelow sameBytes judgingOf judgingCheck modelCheck file.headerCheck nameCheck edgeCheck nodeAt nodeWithin pathWithin holdsTest leadsTest judgedBy lowestBelow countBelow leadsIn nodeNamed tableau.judgingOf tableau.judgingCheck tableau.headerCheck tableau.walked run stepping ruleAt stepAt stepsFrom branchHas usesName
-readings-hold = (
-  (λ size l. rw (le-ltb size 8192 l)),
-  (
-    (λ size l. rw (le-ltb size 8192 l)),
-    (
-      (λ size l. rw (le-ltb size 8192 l)),
-      (
-        (λ size l. rw (le-ltb size 8192 l)),
-        (refl, (refl, ((λ size l. rw (le-ltb size 2040 l)), ((λ size l. rw (le-ltb size 2040 l)), (I-holds, ((refl, refl, refl, refl), tt)))))),
-      ),
-    ),
-  ),
-)
+unfolding readingOf patternCheck headerCheck entryCheck rootCheck eachField someBelow eachBelow sameBytes judgingOf judgingCheck modelCheck file.headerCheck nameCheck edgeCheck nodeAt nodeWithin pathWithin holdsTest leadsTest judgedBy lowestBelow countBelow leadsIn nodeNamed tableau.judgingOf tableau.judgingCheck tableau.headerCheck tableau.walked run stepping ruleAt stepAt stepsFrom branchHas usesName digitsWithin
+readings-hold = (refl, (refl, (refl, (refl, (refl, (refl, (refl, (refl, (I-holds, ((refl, refl, refl, refl), tt))))))))))

@@ -1,11 +1,11 @@
--- `runner::tableau_report` meets its contract, case by case.
+-- `report::tableau_report` meets its contract, case by case.
 -- Assumes nothing.
 use mathlib.Core.Path.{refl}
 use borrow.Author.Needs.{needs}
-use Rattle.runner.proofs.tableau_report.Statement.{statement}
-use Rattle.runner.proofs.tableau_report.Tie as tie
-use Rattle.runner.proofs.tableau_report.Reads as reads
-use Rattle.runner.proofs.tableau_report.Lts as lts
+use Rattle.report.proofs.tableau_report.Statement.{statement}
+use Rattle.report.proofs.tableau_report.Tie as tie
+use Rattle.report.proofs.tableau_report.Reads as reads
+use Rattle.report.proofs.tableau_report.Lts as lts
 use Rattle.tableau.proofs.finding.TableauRefusal.number.Reads as number-reads
 use Rattle.tableau.proofs.finding.TableauRefusal.place.Reads as place-reads
 

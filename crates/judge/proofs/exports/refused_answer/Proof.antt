@@ -1,0 +1,17 @@
+-- `judge::exports::refused_answer` meets its contract: the number stands before the place.
+-- Assumes nothing.
+use borrow.Author.Needs.{needs}
+use Rattle.judge.proofs.exports.refused_answer.Statement.{statement}
+use Rattle.judge.proofs.exports.refused_answer.Tie as tie
+use Rattle.judge.proofs.exports.refused_answer.Reads as reads
+use Rattle.judge.proofs.exports.refused_answer.Lts as lts
+use Rattle.judge.proofs.exports.packed.Reads as packed-reads
+
+packed-requires : tie.Need-packed-requires
+packed-requires c κs = search needs
+
+returns : tie.Need-returns
+returns c = c .packed .ensures
+
+pub refused-answer-spec : {M : Type 1} → statement M
+refused-answer-spec = tie.close (tie.spec packed-requires returns)

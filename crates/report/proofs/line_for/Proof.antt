@@ -1,0 +1,25 @@
+-- `report::line_for` meets its contract: it fills the line of the report.
+-- Assumes nothing.
+use borrow.Author.Needs.{needs}
+use Rattle.report.specs.Line.{lineFor}
+use Rattle.report.specs.Filling.{filled-told}
+use Rattle.report.proofs.line_for.Statement.{statement}
+use Rattle.report.proofs.line_for.Tie as tie
+use Rattle.report.proofs.line_for.Reads as reads
+use Rattle.report.proofs.line_for.Lts as lts
+use Rattle.report.proofs.line.fill.Reads as fill-reads
+use Rattle.report.proofs.report_for.Reads as report-for-reads
+
+report-for-requires : tie.Need-report-for-requires
+report-for-requires c κs = search needs
+
+fill-requires : tie.Need-fill-requires
+fill-requires c κs = search needs
+
+returns : tie.Need-returns
+returns c =
+    let a = c .before .before .before .before .before .args in
+    filled-told (lineFor (a .pattern .now) (a .proposal .now)) (a .buf .now) _ _ (rw (c .before .before .report-for .ensures) at (c .fill .ensures))
+
+pub line-for-spec : {M : Type 1} → statement M
+line-for-spec = tie.close (tie.spec report-for-requires fill-requires returns)

@@ -1,0 +1,45 @@
+-- The bytes of the line that the bench program prints, for each report.
+-- Assumes nothing.
+use mathlib.Core.List.{List, [], _∷_, _++_}
+use Prim.Native.Nat.{ℕ, zero, suc, _+_, _/_, _%_}
+use Prim.Native.String as string
+use Prim.Native.String.{String}
+use Prim.Native.Char.{code}
+use lib.Dec.{ltb}
+use lib.ListN.{length, drop}
+use Rattle.wire.specs.Choice.{pick}
+use Rattle.report.specs.declared.Report.{Report}
+use Rattle.report.specs.Report.{reportOf}
+
+-- the bytes of a text whose characters are ASCII
+abbrev pub text : String → List ℕ
+text string.[] = []
+text (string._∷_ c cs) = code c ∷ text cs
+
+-- the digits of a number, at most so many, without leading zeros: the last one, and before it those of the tenth of a number over 9
+unfoldable pub digitsWithin : ℕ → ℕ → List ℕ
+digitsWithin zero n = []
+digitsWithin (suc most) n = let before = digitsWithin most (n / 10) in pick (ltb n 10) [] before ++ ((code "0" + n % 10) ∷ [])
+
+-- a number in decimal: it has no more than n + 1 digits
+abbrev pub decimal : ℕ → List ℕ
+decimal n = digitsWithin (suc n) n
+
+-- a number in a line: one space before it
+abbrev pub number : ℕ → List ℕ
+number n = text " " ++ decimal n
+
+-- "one line: `closed` and four counts, `met` node number, `unmet`, or `refused` number place"
+abbrev pub lineOf : Report → List ℕ
+lineOf (Report.Closed steps clashes forks most) = text "closed" ++ number steps ++ number clashes ++ number forks ++ number most ++ text "\n"
+lineOf (Report.Met lowest nodes) = text "met" ++ number lowest ++ number nodes ++ text "\n"
+lineOf Report.Unmet = text "unmet\n"
+lineOf (Report.Refused refusal place) = text "refused" ++ number refusal ++ number place ++ text "\n"
+
+-- the line that is printed of a pattern and a proposal
+abbrev pub lineFor : List ℕ → List ℕ → List ℕ
+lineFor bs xs = lineOf (reportOf bs xs)
+
+-- a buffer with a text at its start, and behind it what stood there
+abbrev pub written : List ℕ → List ℕ → List ℕ
+written front buf = front ++ drop (length front) buf
