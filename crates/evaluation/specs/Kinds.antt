@@ -86,8 +86,8 @@ is-path-kind Kind.Test = refl
 is-path-kind Kind.Fork = refl
 is-path-kind Kind.Unknown = neither-no-path
 
-pub node-told : (κ : Kind) (told : NodeKind) → told ≡ nodeKindOf κ → IsNodeKind told κ
-node-told κ told e = subst (λ (t : NodeKind). IsNodeKind t κ) (sym e) (is-node-kind κ)
+pub node-kind-is : (κ : Kind) (kind : NodeKind) → kind ≡ nodeKindOf κ → IsNodeKind kind κ
+node-kind-is κ kind e = subst (λ (t : NodeKind). IsNodeKind t κ) (sym e) (is-node-kind κ)
 
-pub path-told : (κ : Kind) (told : PathKind) → told ≡ pathKindOf κ → IsPathKind told κ
-path-told κ told e = subst (λ (t : PathKind). IsPathKind t κ) (sym e) (is-path-kind κ)
+pub path-kind-is : (κ : Kind) (kind : PathKind) → kind ≡ pathKindOf κ → IsPathKind kind κ
+path-kind-is κ kind e = subst (λ (t : PathKind). IsPathKind t κ) (sym e) (is-path-kind κ)

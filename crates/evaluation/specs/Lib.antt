@@ -6,5 +6,5 @@ pub mod Entries
 pub mod Sweep
 pub mod Nodes
 pub mod Evaluated
-pub mod Passed
+pub mod SweepEntry
 pub mod Known

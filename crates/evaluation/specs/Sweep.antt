@@ -35,8 +35,8 @@ abbrev pub addTo : List ℕ → ℕ → NodeSet → List ℕ
 addTo pending r s = put pending r (union (setAt pending r) s)
 
 -- the entries that a sweep from reference r goes through: it and those below it, none from the end of path
-abbrev pub topOf : ℕ → ℕ
-topOf r = pick (eqb r endOfPath) 0 (suc r)
+abbrev pub entriesSwept : ℕ → ℕ
+entriesSwept r = pick (eqb r endOfPath) 0 (suc r)
 
 -- a pending set for each reference, the end of path the last
 abbrev pub pendingBytes : ℕ
@@ -426,7 +426,7 @@ module _ (F : Finite) (ok : Named F) (bs : List ℕ) where
               subst (λ (t : NodeSet). has t w ≡ false) (sym (put-other (replicate pendingBytes 0) r i (only (u .0)) ne)) (has-zeros pendingBytes i w) in
               (λ m. absurd (false≢true (sym none ∙ m)), λ p. absurd (ne (p .0)))
 
-      pub swept-none : EarlierPath bs n r → Swept r u (begun r (u .0)) (topOf r)
+      pub swept-none : EarlierPath bs n r → Swept r u (begun r (u .0)) (entriesSwept r)
       swept-none earlier =
           record {
             all-inside = λ i w h. subst (λ (x : ℕ). x < F .size) (sym (new i w .0 h .1)) (u .1);
@@ -436,7 +436,7 @@ module _ (F : Finite) (ok : Named F) (bs : List ℕ) where
           new : (i w : ℕ) → (has (setAt (begun r (u .0)) i) w ≡ true) ↔ ((i ≡ r) × (w ≡ u .0))
           new i w = begun-has (reference-fits valid r earlier) i w
 
-          start : EarlierPath bs n r → (v : NodeOf F) → Leading F ok bs r u v → Reached (begun r (u .0)) (topOf r) v
+          start : EarlierPath bs n r → (v : NodeOf F) → Leading F ok bs r u v → Reached (begun r (u .0)) (entriesSwept r) v
           start (inl e) v lead =
               let same = end-leads u v .0 (subst (λ (k : ℕ). Leading F ok bs k u v) e lead) in
               inl (new endOfPath (v .0) .1 (sym e, ap (λ (w : NodeOf F). w .0) (sym same)))
@@ -444,7 +444,7 @@ module _ (F : Finite) (ok : Named F) (bs : List ℕ) where
               let no-end : r ≡ endOfPath → ⊥ = λ e. omega (arith, l, valid .header .one-byte, valid .count-is) in
               inr (r, (rw (ne-eqb r endOfPath no-end) (lt-suc-self r), p, (u, (new r (u .0) .1 (refl, refl), lead))))
 
-          back : (v : NodeOf F) → EarlierPath bs n r → Reached (begun r (u .0)) (topOf r) v → Leading F ok bs r u v
+          back : (v : NodeOf F) → EarlierPath bs n r → Reached (begun r (u .0)) (entriesSwept r) v → Leading F ok bs r u v
           back v earlier (inl h) =
               let m = new endOfPath (v .0) .0 h in
               subst (λ (k : ℕ). Leading F ok bs k u v) (m .0) (end-leads u v .1 (node-same F (sym (m .1))))
@@ -453,6 +453,6 @@ module _ (F : Finite) (ok : Named F) (bs : List ℕ) where
               subst (λ (x : NodeOf F). Leading F ok bs r x v) (node-same F (m .1)) (subst (λ (k : ℕ). Leading F ok bs k w v) (m .0) lead)
 
 -- one entry of the sweep, in each model that the tables stand for
-abbrev pub Passing : (bs table alike area : List ℕ) → ℕ → ℕ → List ℕ → List ℕ → Type 0
-Passing bs table alike area known i before after =
+abbrev pub EntrySwept : (bs table alike area : List ℕ) → ℕ → ℕ → List ℕ → List ℕ → Type 0
+EntrySwept bs table alike area known i before after =
     (w : Standing bs table alike area known) → KeepsEnds (w .model) (w .named) bs i before after

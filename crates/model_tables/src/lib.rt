@@ -1,8 +1,10 @@
-// From the bytes of a model file that passed its checks to the tables of node sets that evaluation
-// reads.
+// Where a pattern holds in the data model of a model file that passed its checks: the tables of node
+// sets that evaluation reads are made on the stack.
+use evaluation::rows::ALIKE_BYTES;
 use evaluation::rows::NAMES;
 use evaluation::rows::NODES;
 use evaluation::rows::PROPERTIES;
+use evaluation::rows::TABLE_BYTES;
 use evaluation::rows::row_of;
 use model_file::byte;
 use model_file::edge_count;
@@ -18,14 +20,18 @@ use pattern::types::Property;
 ghost use mathlib.Core.Path.{_≡_};
 ghost use mathlib.Core.Bool.{true, false};
 ghost use Prim.Native.Nat.{ℕ, _+_, _≤_, _<_};
-ghost use lib.ListN.{length};
+ghost use lib.ListN.{length, replicate};
 ghost use Rattle.nodeset.specs.Set.{has};
 ghost use Rattle.nodeset.specs.Stored.{tableBytes, setAt};
+ghost use Rattle.pattern.specs.Checks.Finding.{found};
 ghost use Rattle.pattern.specs.File.Types.{maxProperty, maxChannel};
+ghost use Rattle.pattern.specs.File.Reading.{countOf, readingOf};
 ghost use Rattle.evaluation.specs.Tables.{propertyRow, modelRows, alikeRow, alikeRows, IsSet, Tabled, Alike};
+ghost use Rattle.evaluation.specs.Standing.{areaBytes};
 ghost use Rattle.model_file.specs.Layout.{nodeCount, edgeCount, nodeRecord, valueOn};
 ghost use Rattle.model_file.specs.Contents.{hasProperty, modelFrom};
 ghost use Rattle.model_file.specs.Valid.{ValidModel};
+ghost use Rattle.model_tables.specs.Root.{rootHolds};
 ghost use Rattle.model_tables.specs.Tables.{WithProperty, AlikeTo, linkOf, Filled, NamesAtZero, NamesListed, Linked};
 
 // Whether property p is in the property set of node u.
@@ -174,7 +180,7 @@ fn fill_channel(d: &[u8], e: u8, alike: &mut [u8])
 }
 
 // The table of the model that a file gives; it is empty before.
-pub fn tabulate(d: &[u8], table: &mut [u8])
+fn tabulate(d: &[u8], table: &mut [u8])
     requires { ⌜ ValidModel (now d) ⌝ }
     requires { ⌜ tableBytes modelRows ≤ length (now table) ⌝ }
     requires { ⌜ ((i u : ℕ) → has (setAt (now table) i) u ≡ false) ⌝ }
@@ -189,7 +195,7 @@ pub fn tabulate(d: &[u8], table: &mut [u8])
 }
 
 // The table of the values of the model that a file gives.
-pub fn tabulate_values(d: &[u8], alike: &mut [u8])
+fn tabulate_values(d: &[u8], alike: &mut [u8])
     requires { ⌜ ValidModel (now d) ⌝ }
     requires { ⌜ tableBytes alikeRows ≤ length (now alike) ⌝ }
     ensures { λ r. ⌜ Alike (modelFrom (now (d .entry))) (now (alike .exit)) ⌝ }
@@ -199,4 +205,20 @@ pub fn tabulate_values(d: &[u8], alike: &mut [u8])
         fill_channel(d, e, alike);
         e += 1;
     }
+}
+
+// The set of the nodes of the model of a file at which the root of a pattern that was read holds. The
+// work slice is left zero.
+pub fn root_nodes(p: &[u8], d: &[u8], work: &mut [u8]) -> NodeSet
+    requires { ⌜ readingOf (now p) ≡ found (countOf (now p)) ⌝ }
+    requires { ⌜ ValidModel (now d) ⌝ }
+    requires { ⌜ areaBytes (now p) ≤ length (now work) ⌝ }
+    ensures nodes { λ r. ⌜ ((u : ℕ) → has r u ≡ rootHolds (now (p .entry)) (now (d .entry)) u) ⌝ }
+    ensures work { λ _. ⌜ now (work .exit) ≡ replicate (length (now (work .entry))) 0 ⌝ }
+{
+    let mut table = [0u8; TABLE_BYTES];
+    let mut alike = [0u8; ALIKE_BYTES];
+    tabulate(d, &mut table);
+    tabulate_values(d, &mut alike);
+    evaluation::root_nodes(p, &table, &alike, work)
 }

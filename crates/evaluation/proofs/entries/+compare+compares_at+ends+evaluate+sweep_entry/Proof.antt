@@ -1,4 +1,4 @@
--- Node evaluation and path ends meet their contracts, by the laws of `Evaluated` and `Passed` for each way out; the entry number falls.
+-- Node evaluation and path ends meet their contracts, by the laws of `Evaluated` and `SweepEntry` for each way out; the entry number falls.
 -- Assumes nothing.
 use mathlib.Core.Path.{_≡_, sym, _∙_, subst}
 use Prim.Native.Nat.{_+_, _-_, _*_, _≤_}
@@ -12,31 +12,31 @@ use Rattle.pattern.specs.File.Reading.{countOf, sortAt}
 use Rattle.pattern.specs.declared.table.Sort.{Sort}
 use Rattle.pattern.specs.File.Types.{maxChannel}
 use Rattle.evaluation.specs.Standing.{Lent}
-use Rattle.evaluation.specs.Sweep.{topOf, pendingBytes}
+use Rattle.evaluation.specs.Sweep.{entriesSwept, pendingBytes}
 use Rattle.evaluation.specs.Nodes.{compares-nowhere}
 use Rattle.evaluation.specs.Entries.{earlier-path}
 use Rattle.evaluation.specs.Evaluated.{entry-long, set-long, lent-valid, NodeEntry, property-within, name-within, axis-within, not-refers, both-refers, after-refers, compares, evaluates-property, evaluates-name, evaluates-not, evaluates-both, evaluates-after, evaluates-none, compare-fields, compares-so, CollectedAt, collects-none, collects-next, evaluates-compare}
-use Rattle.evaluation.specs.Passed.{PathEntry, passing-none, step-axis, jump-name, test-node, test-rest, passing-step, passing-jump, passing-test, passing-fork, passing-no-path, SweptAt, sweep-begins, sweep-goes-on, sweep-ends, top-below}
+use Rattle.evaluation.specs.SweepEntry.{PathEntry, sweeps-none, step-axis, jump-name, test-node, test-rest, sweeps-step, sweeps-jump, sweeps-test, sweeps-fork, sweeps-no-path, SweptAt, sweep-begins, sweep-goes-on, sweep-ends, swept-below}
 use Prim.Native.Nat.{ℕ, _<_}
 use borrow.Fn.Kinds.{In}
 use borrow.Fn.PlainCycle.{Measures, is, falls, and}
 use Rattle.evaluation.proofs.entries.compare.Reads as compare
 use Rattle.evaluation.proofs.entries.compare.Kinds as compare-kinds
-use Rattle.evaluation.proofs.entries.+compare+compares_at+ends+evaluate+pass.Lts-compare as compare-lts
+use Rattle.evaluation.proofs.entries.+compare+compares_at+ends+evaluate+sweep_entry.Lts-compare as compare-lts
 use Rattle.evaluation.proofs.entries.compares_at.Reads as compares-at
 use Rattle.evaluation.proofs.entries.compares_at.Kinds as compares-at-kinds
-use Rattle.evaluation.proofs.entries.+compare+compares_at+ends+evaluate+pass.Lts-compares_at as compares-at-lts
+use Rattle.evaluation.proofs.entries.+compare+compares_at+ends+evaluate+sweep_entry.Lts-compares_at as compares-at-lts
 use Rattle.evaluation.proofs.entries.ends.Reads as ends
 use Rattle.evaluation.proofs.entries.ends.Kinds as ends-kinds
-use Rattle.evaluation.proofs.entries.+compare+compares_at+ends+evaluate+pass.Lts-ends as ends-lts
+use Rattle.evaluation.proofs.entries.+compare+compares_at+ends+evaluate+sweep_entry.Lts-ends as ends-lts
 use Rattle.evaluation.proofs.entries.evaluate.Reads as evaluate
 use Rattle.evaluation.proofs.entries.evaluate.Kinds as evaluate-kinds
-use Rattle.evaluation.proofs.entries.+compare+compares_at+ends+evaluate+pass.Lts-evaluate as evaluate-lts
-use Rattle.evaluation.proofs.entries.pass.Reads as pass
-use Rattle.evaluation.proofs.entries.pass.Kinds as pass-kinds
-use Rattle.evaluation.proofs.entries.+compare+compares_at+ends+evaluate+pass.Lts-pass as pass-lts
+use Rattle.evaluation.proofs.entries.+compare+compares_at+ends+evaluate+sweep_entry.Lts-evaluate as evaluate-lts
+use Rattle.evaluation.proofs.entries.sweep_entry.Reads as sweep-entry
+use Rattle.evaluation.proofs.entries.sweep_entry.Kinds as sweep-entry-kinds
+use Rattle.evaluation.proofs.entries.+compare+compares_at+ends+evaluate+sweep_entry.Lts-sweep_entry as sweep-entry-lts
 use Rattle.evaluation.proofs.entries.add.Reads as add-reads
-use Rattle.evaluation.proofs.entries.top.Reads as top-reads
+use Rattle.evaluation.proofs.entries.entries_swept.Reads as entries-swept-reads
 use Rattle.evaluation.proofs.kinds.node_kind.Reads as node-kind-reads
 use Rattle.evaluation.proofs.kinds.path_kind.Reads as path-kind-reads
 use Rattle.evaluation.proofs.relations.all_nodes.Reads as all-nodes-reads
@@ -55,8 +55,8 @@ use Rattle.nodeset.proofs.NodeSet.minus.Reads as minus-reads
 use Rattle.nodeset.proofs.NodeSet.only.Reads as only-reads
 use Rattle.nodeset.proofs.NodeSet.store.Reads as store-reads
 use Rattle.pattern.proofs.entry.Entry.at.Reads as at-reads
-use Rattle.evaluation.proofs.entries.+compare+compares_at+ends+evaluate+pass.{statement}
-use Rattle.evaluation.proofs.entries.+compare+compares_at+ends+evaluate+pass.Tie.{close}
+use Rattle.evaluation.proofs.entries.+compare+compares_at+ends+evaluate+sweep_entry.{statement}
+use Rattle.evaluation.proofs.entries.+compare+compares_at+ends+evaluate+sweep_entry.Tie.{close}
 
 abbrev μ-compare : Measures 4 compare-kinds.ps ℕ
 μ-compare κs a = 8 * a .1 .1 .1 .1 .1 .0 + 5
@@ -65,13 +65,13 @@ abbrev μ-compares-at : Measures 4 compares-at-kinds.ps ℕ
 μ-compares-at κs a = 8 * a .1 .1 .1 .1 .1 .0 + 4
 
 abbrev μ-ends : Measures 4 ends-kinds.ps ℕ
-μ-ends κs a = 8 * topOf (a .1 .1 .1 .1 .1 .0)
+μ-ends κs a = 8 * entriesSwept (a .1 .1 .1 .1 .1 .0)
 
 abbrev μ-evaluate : Measures 4 evaluate-kinds.ps ℕ
 μ-evaluate κs a = 8 * a .1 .1 .1 .1 .1 .0 + 6
 
-abbrev μ-pass : Measures 5 pass-kinds.ps ℕ
-μ-pass κs a = 8 * a .1 .1 .1 .1 .1 .0 + 7
+abbrev μ-sweep-entry : Measures 5 sweep-entry-kinds.ps ℕ
+μ-sweep-entry κs a = 8 * a .1 .1 .1 .1 .1 .0 + 7
 
 abbrev compare-at : ℕ → In 4 compare-kinds.ps
 compare-at t = and 4 compare-kinds.ps (is 4 compare-kinds.ps μ-compare t) compare.Pre
@@ -100,11 +100,11 @@ abbrev evaluate-below : ℕ → In 4 evaluate-kinds.ps
 evaluate-below t =
     and 4 evaluate-kinds.ps (falls 4 evaluate-kinds.ps _<_ μ-evaluate t) evaluate.Pre
 
-abbrev pass-at : ℕ → In 5 pass-kinds.ps
-pass-at t = and 5 pass-kinds.ps (is 5 pass-kinds.ps μ-pass t) pass.Pre
+abbrev sweep-entry-at : ℕ → In 5 sweep-entry-kinds.ps
+sweep-entry-at t = and 5 sweep-entry-kinds.ps (is 5 sweep-entry-kinds.ps μ-sweep-entry t) sweep-entry.Pre
 
-abbrev pass-below : ℕ → In 5 pass-kinds.ps
-pass-below t = and 5 pass-kinds.ps (falls 5 pass-kinds.ps _<_ μ-pass t) pass.Pre
+abbrev sweep-entry-below : ℕ → In 5 sweep-entry-kinds.ps
+sweep-entry-below t = and 5 sweep-entry-kinds.ps (falls 5 sweep-entry-kinds.ps _<_ μ-sweep-entry t) sweep-entry.Pre
 
 abbrev compare-claims : ℕ → compare-lts.Claims
 compare-claims t = (
@@ -136,10 +136,10 @@ ends-claims t = (
   only-reads.Learnt,
   store-reads.Asked,
   store-reads.Learnt,
-  top-reads.Asked,
-  top-reads.Learnt,
-  pass-below t,
-  pass.Post,
+  entries-swept-reads.Asked,
+  entries-swept-reads.Learnt,
+  sweep-entry-below t,
+  sweep-entry.Post,
   load-reads.Asked,
   load-reads.Learnt,
 )
@@ -172,8 +172,8 @@ evaluate-claims t = (
   empty-reads.Learnt,
 )
 
-abbrev pass-claims : ℕ → pass-lts.Claims
-pass-claims t = (
+abbrev sweep-entry-claims : ℕ → sweep-entry-lts.Claims
+sweep-entry-claims t = (
   load-reads.Asked,
   load-reads.Learnt,
   is-empty-reads.Asked,
@@ -256,7 +256,7 @@ compares-at-fields : (t : ℕ) (c : compares-at-lts.After-at (compares-at-claims
     → let a = c .before .before .before .before .before .before .before .before .args in
     let e = c .at .result in
     (e .x ≤ maxChannel) × EarlierPath (a .p .now) (countOf (a .p .now)) (e .y) × EarlierPath (a .p .now) (countOf (a .p .now)) (e .z)
-    × (topOf (e .y) ≤ a .k) × (topOf (e .z) ≤ a .k)
+    × (entriesSwept (e .y) ≤ a .k) × (entriesSwept (e .z) ≤ a .k)
 compares-at-fields t c =
     let s = c .before .before .before .before .before .before .before .before in
     let a = s .args in
@@ -269,8 +269,8 @@ compares-at-fields t c =
       f .0,
       earlier-path (a .p .now) (a .k) (countOf (a .p .now)) (e .y) below (f .1),
       earlier-path (a .p .now) (a .k) (countOf (a .p .now)) (e .z) below (f .2),
-      top-below (a .p .now) (a .k) (e .y) few (f .1),
-      top-below (a .p .now) (a .k) (e .z) few (f .2),
+      swept-below (a .p .now) (a .k) (e .y) few (f .1),
+      swept-below (a .p .now) (a .k) (e .z) few (f .2),
     )
 
 compares-at-ends-requires : (t : ℕ) → compares-at-lts.Need-ends-requires (compares-at-claims t) (compares-at-at t) compares-at.Post
@@ -299,7 +299,7 @@ compares-at-returns-2 t c = let e = c .before .before .before in
     (c .some-pair .ensures)
 
 abbrev ends-Inv-loop : ends-lts.InvT-loop
-ends-Inv-loop p table alike area known first from pending₀ j₀ pending j = (j ≤ topOf first) × (length pending ≡ pendingBytes) × SweptAt p table alike area known first from pending j
+ends-Inv-loop p table alike area known first from pending₀ j₀ pending j = (j ≤ entriesSwept first) × (length pending ≡ pendingBytes) × SweptAt p table alike area known first from pending j
 
 abbrev ends-μ-loop : ends-lts.MeasureT-loop
 ends-μ-loop p table alike area known first from pending₀ j₀ pending j = j
@@ -313,29 +313,29 @@ ends-slice-aggregate-store t c = search needs
 ends-store-requires : (t : ℕ) → ends-lts.Need-store-requires (ends-claims t) (ends-at t) ends.Post ends-Inv-loop ends-μ-loop
 ends-store-requires t c κs = search needs
 
-ends-top-requires : (t : ℕ) → ends-lts.Need-top-requires (ends-claims t) (ends-at t) ends.Post ends-Inv-loop ends-μ-loop
-ends-top-requires t c κs = search needs
+ends-entries-swept-requires : (t : ℕ) → ends-lts.Need-entries-swept-requires (ends-claims t) (ends-at t) ends.Post ends-Inv-loop ends-μ-loop
+ends-entries-swept-requires t c κs = search needs
 
 ends-loop-holds : (t : ℕ) → ends-lts.Need-loop-holds (ends-claims t) (ends-at t) ends.Post ends-Inv-loop ends-μ-loop
 ends-loop-holds t c = let b = c .before .before in
     let s = b .before .before .before .before .before .before .before in
     let a = s .args in (
-      omega (arith, c .top .ensures),
+      omega (arith, c .entries-swept .ensures),
       search needs,
-      rw (c .top .ensures, b .store .ensures, b .before .before .only .ensures) (sweep-begins (s .pre .1 .0) (a .known) (a .first) (a .from) (s .pre .1 .1 .0)),
+      rw (c .entries-swept .ensures, b .store .ensures, b .before .before .only .ensures) (sweep-begins (s .pre .1 .0) (a .known) (a .first) (a .from) (s .pre .1 .1 .0)),
     )
 
 ends-sub-j : (t : ℕ) → ends-lts.Need-sub-j (ends-claims t) (ends-at t) ends.Post ends-Inv-loop ends-μ-loop
 ends-sub-j t c = search needs
 
-ends-slice-aggregate-pass : (t : ℕ) → ends-lts.Need-slice-aggregate-pass (ends-claims t) (ends-at t) ends.Post ends-Inv-loop ends-μ-loop
-ends-slice-aggregate-pass t c = search needs
+ends-slice-aggregate-sweep-entry : (t : ℕ) → ends-lts.Need-slice-aggregate-sweep-entry (ends-claims t) (ends-at t) ends.Post ends-Inv-loop ends-μ-loop
+ends-slice-aggregate-sweep-entry t c = search needs
 
-ends-pass-requires : (t : ℕ) → ends-lts.Need-pass-requires (ends-claims t) (ends-at t) ends.Post ends-Inv-loop ends-μ-loop
-ends-pass-requires t c κs = let l = c .before .before in
+ends-sweep-entry-requires : (t : ℕ) → ends-lts.Need-sweep-entry-requires (ends-claims t) (ends-at t) ends.Post ends-Inv-loop ends-μ-loop
+ends-sweep-entry-requires t c κs = let l = c .before .before in
     let s = l .before .before .before .before .before .before .before .before .before .before in
     let a = s .args in
-    let within = top-below (a .p .now) (countOf (a .p .now)) (a .first) (lent-valid (s .pre .1 .0) .header .one-byte) (s .pre .1 .1 .0) in
+    let within = swept-below (a .p .now) (countOf (a .p .now)) (a .first) (lent-valid (s .pre .1 .0) .header .one-byte) (s .pre .1 .1 .0) in
     (omega (arith, s .pre .0, l .loop .inv .0), (s .pre .1 .0, (omega (arith, within, l .loop .inv .0), omega (arith, l .loop .inv .1))))
 
 ends-loop-less : (t : ℕ) → ends-lts.Need-loop-less (ends-claims t) (ends-at t) ends.Post ends-Inv-loop ends-μ-loop
@@ -347,7 +347,7 @@ ends-loop-again t c = let l = c .before .before .before .before in
     let a = s .args in (
       omega (arith, l .loop .inv .0),
       search needs,
-      sweep-goes-on (s .pre .1 .0) (a .known) (a .first) (a .from) (l .loop .j) (l .loop .pending) _ (search needs) (l .loop .inv .2) (c .before .pass .ensures),
+      sweep-goes-on (s .pre .1 .0) (a .known) (a .first) (a .from) (l .loop .j) (l .loop .pending) _ (search needs) (l .loop .inv .2) (c .before .sweep-entry .ensures),
     )
 
 ends-slice-aggregate-load : (t : ℕ) → ends-lts.Need-slice-aggregate-load (ends-claims t) (ends-at t) ends.Post ends-Inv-loop ends-μ-loop
@@ -440,13 +440,13 @@ evaluate-evaluate-requires-4 t c κs = let n = evaluate-entry t (c .before .befo
 evaluate-before-requires : (t : ℕ) → evaluate-lts.Need-before-requires (evaluate-claims t) (evaluate-at t) evaluate.Post
 evaluate-before-requires t c κs = let n = evaluate-entry t (c .before .before .before) in (n .lent .table-long, axis-within n (c .before .enum-told5 .given .1))
 
-evaluate-enum-known-told : (t : ℕ) → evaluate-lts.Need-enum-known-told (evaluate-claims t) (evaluate-at t) evaluate.Post
-evaluate-enum-known-told t c = search needs
+evaluate-enum-known-node : (t : ℕ) → evaluate-lts.Need-enum-known-node (evaluate-claims t) (evaluate-at t) evaluate.Post
+evaluate-enum-known-node t c = search needs
 
 evaluate-compare-requires : (t : ℕ) → evaluate-lts.Need-compare-requires (evaluate-claims t) (evaluate-at t) evaluate.Post
 evaluate-compare-requires t c κs = let n = evaluate-entry t (c .before .before .before) in
     let s = c .before .before .before .before .before .before .before .before .before .before in
-    (omega (arith, s .pre .0), (n .lent, (n .within, compares n _ (c .before .told .given .1))))
+    (omega (arith, s .pre .0), (n .lent, (n .within, compares n _ (c .before .node .given .1))))
 
 evaluate-enum-told-6 : (t : ℕ) → evaluate-lts.Need-enum-told-6 (evaluate-claims t) (evaluate-at t) evaluate.Post
 evaluate-enum-told-6 t c = search needs
@@ -481,35 +481,35 @@ evaluate-returns-7 t c = c .compare .ensures
 evaluate-returns-8 : (t : ℕ) → evaluate-lts.Need-returns-8 (evaluate-claims t) (evaluate-at t) evaluate.Post
 evaluate-returns-8 t c = evaluates-none (evaluate-entry t (c .before .before .before)) _ (c .empty .result) (c .before .enum-told6 .given .1)
 
-pass-load-requires : (t : ℕ) → pass-lts.Need-load-requires (pass-claims t) (pass-at t) pass.Post
-pass-load-requires t c κs = search needs
+sweep-entry-load-requires : (t : ℕ) → sweep-entry-lts.Need-load-requires (sweep-entry-claims t) (sweep-entry-at t) sweep-entry.Post
+sweep-entry-load-requires t c κs = search needs
 
-pass-is-empty-requires : (t : ℕ) → pass-lts.Need-is-empty-requires (pass-claims t) (pass-at t) pass.Post
-pass-is-empty-requires t c κs = search needs
+sweep-entry-is-empty-requires : (t : ℕ) → sweep-entry-lts.Need-is-empty-requires (sweep-entry-claims t) (sweep-entry-at t) sweep-entry.Post
+sweep-entry-is-empty-requires t c κs = search needs
 
-pass-same-length : (t : ℕ) → pass-lts.Need-same-length (pass-claims t) (pass-at t) pass.Post
-pass-same-length t c = search needs
+sweep-entry-same-length : (t : ℕ) → sweep-entry-lts.Need-same-length (sweep-entry-claims t) (sweep-entry-at t) sweep-entry.Post
+sweep-entry-same-length t c = search needs
 
-pass-returns : (t : ℕ) → pass-lts.Need-returns (pass-claims t) (pass-at t) pass.Post
-pass-returns t c = let l = c .before .before in
+sweep-entry-returns : (t : ℕ) → sweep-entry-lts.Need-returns (sweep-entry-claims t) (sweep-entry-at t) sweep-entry.Post
+sweep-entry-returns t c = let l = c .before .before in
     let s = l .before .before .before .before .before .before .before in
-    passing-none (s .pre .1 .0) (s .args .known) (s .args .i) (s .args .pending .now) (rw (l .load .ensures) at (sym (c .before .is-empty .ensures) ∙ c .if1 .taken))
+    sweeps-none (s .pre .1 .0) (s .args .known) (s .args .i) (s .args .pending .now) (rw (l .load .ensures) at (sym (c .before .is-empty .ensures) ∙ c .if1 .taken))
 
-pass-at-requires : (t : ℕ) → pass-lts.Need-at-requires (pass-claims t) (pass-at t) pass.Post
-pass-at-requires t c κs = let s = c .before .before .before .before .before .before .before .before .before in entry-long (s .pre .1 .0) (s .args .i) (s .pre .1 .1 .0)
+sweep-entry-at-requires : (t : ℕ) → sweep-entry-lts.Need-at-requires (sweep-entry-claims t) (sweep-entry-at t) sweep-entry.Post
+sweep-entry-at-requires t c κs = let s = c .before .before .before .before .before .before .before .before .before in entry-long (s .pre .1 .0) (s .args .i) (s .pre .1 .1 .0)
 
-pass-path-kind-requires : (t : ℕ) → pass-lts.Need-path-kind-requires (pass-claims t) (pass-at t) pass.Post
-pass-path-kind-requires t c κs = search needs
+sweep-entry-path-kind-requires : (t : ℕ) → sweep-entry-lts.Need-path-kind-requires (sweep-entry-claims t) (sweep-entry-at t) sweep-entry.Post
+sweep-entry-path-kind-requires t c κs = search needs
 
-pass-enum-told : (t : ℕ) → pass-lts.Need-enum-told (pass-claims t) (pass-at t) pass.Post
-pass-enum-told t c = search needs
+sweep-entry-enum-told : (t : ℕ) → sweep-entry-lts.Need-enum-told (sweep-entry-claims t) (sweep-entry-at t) sweep-entry.Post
+sweep-entry-enum-told t c = search needs
 
 -- the entry of the sweep
-pass-entry : (t : ℕ) (c : pass-lts.After-path-kind (pass-claims t) (pass-at t) pass.Post)
+sweep-entry-entry : (t : ℕ) (c : sweep-entry-lts.After-path-kind (sweep-entry-claims t) (sweep-entry-at t) sweep-entry.Post)
     → let l = c .before .before .before .before in
     let a = l .before .before .before .before .before .before .before .args in
     PathEntry (a .p .now) (a .table .now) (a .alike .now) (a .area .now) (a .i) (c .before .at .result) (c .path-kind .result) (a .pending .now) (l .load .result)
-pass-entry t c =
+sweep-entry-entry t c =
     let l = c .before .before .before .before in
     let s = l .before .before .before .before .before .before .before in
     record {
@@ -522,90 +522,90 @@ pass-entry t c =
       some = sym (c .before .before .before .is-empty .ensures) ∙ c .before .before .if1 .left;
     }
 
-pass-image-requires : (t : ℕ) → pass-lts.Need-image-requires (pass-claims t) (pass-at t) pass.Post
-pass-image-requires t c κs = let n = pass-entry t (c .before .before .before) in (n .lent .table-long, step-axis n (c .before .enum-told .given .1))
+sweep-entry-image-requires : (t : ℕ) → sweep-entry-lts.Need-image-requires (sweep-entry-claims t) (sweep-entry-at t) sweep-entry.Post
+sweep-entry-image-requires t c κs = let n = sweep-entry-entry t (c .before .before .before) in (n .lent .table-long, step-axis n (c .before .enum-told .given .1))
 
-pass-add-requires : (t : ℕ) → pass-lts.Need-add-requires (pass-claims t) (pass-at t) pass.Post
-pass-add-requires t c κs = search needs
+sweep-entry-add-requires : (t : ℕ) → sweep-entry-lts.Need-add-requires (sweep-entry-claims t) (sweep-entry-at t) sweep-entry.Post
+sweep-entry-add-requires t c κs = search needs
 
-pass-enum-told-2 : (t : ℕ) → pass-lts.Need-enum-told-2 (pass-claims t) (pass-at t) pass.Post
-pass-enum-told-2 t c = search needs
+sweep-entry-enum-told-2 : (t : ℕ) → sweep-entry-lts.Need-enum-told-2 (sweep-entry-claims t) (sweep-entry-at t) sweep-entry.Post
+sweep-entry-enum-told-2 t c = search needs
 
-pass-with-name-requires : (t : ℕ) → pass-lts.Need-with-name-requires (pass-claims t) (pass-at t) pass.Post
-pass-with-name-requires t c κs = let n = pass-entry t (c .before .before .before) in (n .lent .table-long, jump-name n (c .before .enum-told2 .given .1))
+sweep-entry-with-name-requires : (t : ℕ) → sweep-entry-lts.Need-with-name-requires (sweep-entry-claims t) (sweep-entry-at t) sweep-entry.Post
+sweep-entry-with-name-requires t c κs = let n = sweep-entry-entry t (c .before .before .before) in (n .lent .table-long, jump-name n (c .before .enum-told2 .given .1))
 
-pass-add-requires-2 : (t : ℕ) → pass-lts.Need-add-requires-2 (pass-claims t) (pass-at t) pass.Post
-pass-add-requires-2 t c κs = search needs
+sweep-entry-add-requires-2 : (t : ℕ) → sweep-entry-lts.Need-add-requires-2 (sweep-entry-claims t) (sweep-entry-at t) sweep-entry.Post
+sweep-entry-add-requires-2 t c κs = search needs
 
-pass-enum-told-3 : (t : ℕ) → pass-lts.Need-enum-told-3 (pass-claims t) (pass-at t) pass.Post
-pass-enum-told-3 t c = search needs
+sweep-entry-enum-told-3 : (t : ℕ) → sweep-entry-lts.Need-enum-told-3 (sweep-entry-claims t) (sweep-entry-at t) sweep-entry.Post
+sweep-entry-enum-told-3 t c = search needs
 
-pass-evaluate-requires : (t : ℕ) → pass-lts.Need-evaluate-requires (pass-claims t) (pass-at t) pass.Post
-pass-evaluate-requires t c κs = let k = c .before .before .before in
-    let n = pass-entry t k in
+sweep-entry-evaluate-requires : (t : ℕ) → sweep-entry-lts.Need-evaluate-requires (sweep-entry-claims t) (sweep-entry-at t) sweep-entry.Post
+sweep-entry-evaluate-requires t c κs = let k = c .before .before .before in
+    let n = sweep-entry-entry t k in
     let s = k .before .before .before .before .before .before .before .before .before .before .before in
     let x = test-node n (c .before .enum-told3 .given .1) in
     (omega (arith, s .pre .0, x .0), (n .lent, (omega (arith, x .0, n .within), x .1)))
 
-pass-meet-requires : (t : ℕ) → pass-lts.Need-meet-requires (pass-claims t) (pass-at t) pass.Post
-pass-meet-requires t c κs = search needs
+sweep-entry-meet-requires : (t : ℕ) → sweep-entry-lts.Need-meet-requires (sweep-entry-claims t) (sweep-entry-at t) sweep-entry.Post
+sweep-entry-meet-requires t c κs = search needs
 
-pass-add-requires-3 : (t : ℕ) → pass-lts.Need-add-requires-3 (pass-claims t) (pass-at t) pass.Post
-pass-add-requires-3 t c κs = let e = c .before .before .before in test-rest (pass-entry t (e .before .before)) (e .enum-told3 .given .1)
+sweep-entry-add-requires-3 : (t : ℕ) → sweep-entry-lts.Need-add-requires-3 (sweep-entry-claims t) (sweep-entry-at t) sweep-entry.Post
+sweep-entry-add-requires-3 t c κs = let e = c .before .before .before in test-rest (sweep-entry-entry t (e .before .before)) (e .enum-told3 .given .1)
 
-pass-enum-told-4 : (t : ℕ) → pass-lts.Need-enum-told-4 (pass-claims t) (pass-at t) pass.Post
-pass-enum-told-4 t c = search needs
+sweep-entry-enum-told-4 : (t : ℕ) → sweep-entry-lts.Need-enum-told-4 (sweep-entry-claims t) (sweep-entry-at t) sweep-entry.Post
+sweep-entry-enum-told-4 t c = search needs
 
-pass-add-requires-4 : (t : ℕ) → pass-lts.Need-add-requires-4 (pass-claims t) (pass-at t) pass.Post
-pass-add-requires-4 t c κs = search needs
+sweep-entry-add-requires-4 : (t : ℕ) → sweep-entry-lts.Need-add-requires-4 (sweep-entry-claims t) (sweep-entry-at t) sweep-entry.Post
+sweep-entry-add-requires-4 t c κs = search needs
 
-pass-add-requires-5 : (t : ℕ) → pass-lts.Need-add-requires-5 (pass-claims t) (pass-at t) pass.Post
-pass-add-requires-5 t c κs = search needs
+sweep-entry-add-requires-5 : (t : ℕ) → sweep-entry-lts.Need-add-requires-5 (sweep-entry-claims t) (sweep-entry-at t) sweep-entry.Post
+sweep-entry-add-requires-5 t c κs = search needs
 
-pass-enum-told-5 : (t : ℕ) → pass-lts.Need-enum-told-5 (pass-claims t) (pass-at t) pass.Post
-pass-enum-told-5 t c = search needs
+sweep-entry-enum-told-5 : (t : ℕ) → sweep-entry-lts.Need-enum-told-5 (sweep-entry-claims t) (sweep-entry-at t) sweep-entry.Post
+sweep-entry-enum-told-5 t c = search needs
 
-pass-same-length-2 : (t : ℕ) → pass-lts.Need-same-length-2 (pass-claims t) (pass-at t) pass.Post
-pass-same-length-2 t c = search needs
+sweep-entry-same-length-2 : (t : ℕ) → sweep-entry-lts.Need-same-length-2 (sweep-entry-claims t) (sweep-entry-at t) sweep-entry.Post
+sweep-entry-same-length-2 t c = search needs
 
-pass-returns-2 : (t : ℕ) → pass-lts.Need-returns-2 (pass-claims t) (pass-at t) pass.Post
-pass-returns-2 t c = let e = c .before .before .before .before .before in
+sweep-entry-returns-2 : (t : ℕ) → sweep-entry-lts.Need-returns-2 (sweep-entry-claims t) (sweep-entry-at t) sweep-entry.Post
+sweep-entry-returns-2 t c = let e = c .before .before .before .before .before in
     rw (c .before .before .add .ensures)
-    (passing-step (pass-entry t (e .before .before)) _ (c .before .before .before .image .result) (e .enum-told .given .1) (c .before .before .before .image .ensures))
+    (sweeps-step (sweep-entry-entry t (e .before .before)) _ (c .before .before .before .image .result) (e .enum-told .given .1) (c .before .before .before .image .ensures))
 
-pass-same-length-3 : (t : ℕ) → pass-lts.Need-same-length-3 (pass-claims t) (pass-at t) pass.Post
-pass-same-length-3 t c = search needs
+sweep-entry-same-length-3 : (t : ℕ) → sweep-entry-lts.Need-same-length-3 (sweep-entry-claims t) (sweep-entry-at t) sweep-entry.Post
+sweep-entry-same-length-3 t c = search needs
 
-pass-returns-3 : (t : ℕ) → pass-lts.Need-returns-3 (pass-claims t) (pass-at t) pass.Post
-pass-returns-3 t c = let e = c .before .before .before .before .before in
-    rw (c .before .before .add2 .ensures, c .before .before .before .with-name .ensures) (passing-jump (pass-entry t (e .before .before)) _ (e .enum-told2 .given .1))
+sweep-entry-returns-3 : (t : ℕ) → sweep-entry-lts.Need-returns-3 (sweep-entry-claims t) (sweep-entry-at t) sweep-entry.Post
+sweep-entry-returns-3 t c = let e = c .before .before .before .before .before in
+    rw (c .before .before .add2 .ensures, c .before .before .before .with-name .ensures) (sweeps-jump (sweep-entry-entry t (e .before .before)) _ (e .enum-told2 .given .1))
 
-pass-same-length-4 : (t : ℕ) → pass-lts.Need-same-length-4 (pass-claims t) (pass-at t) pass.Post
-pass-same-length-4 t c = search needs
+sweep-entry-same-length-4 : (t : ℕ) → sweep-entry-lts.Need-same-length-4 (sweep-entry-claims t) (sweep-entry-at t) sweep-entry.Post
+sweep-entry-same-length-4 t c = search needs
 
-pass-returns-4 : (t : ℕ) → pass-lts.Need-returns-4 (pass-claims t) (pass-at t) pass.Post
-pass-returns-4 t c = let e = c .before .before .before .before .before .before in
+sweep-entry-returns-4 : (t : ℕ) → sweep-entry-lts.Need-returns-4 (sweep-entry-claims t) (sweep-entry-at t) sweep-entry.Post
+sweep-entry-returns-4 t c = let e = c .before .before .before .before .before .before in
     let v = e .before .before in
     rw (c .before .before .add3 .ensures, c .before .before .before .meet .ensures)
-    (passing-test (pass-entry t v) _ (c .before .before .before .before .evaluate .result) (e .enum-told3 .given .1) (c .before .before .before .before .evaluate .ensures))
+    (sweeps-test (sweep-entry-entry t v) _ (c .before .before .before .before .evaluate .result) (e .enum-told3 .given .1) (c .before .before .before .before .evaluate .ensures))
 
-pass-same-length-5 : (t : ℕ) → pass-lts.Need-same-length-5 (pass-claims t) (pass-at t) pass.Post
-pass-same-length-5 t c = search needs
+sweep-entry-same-length-5 : (t : ℕ) → sweep-entry-lts.Need-same-length-5 (sweep-entry-claims t) (sweep-entry-at t) sweep-entry.Post
+sweep-entry-same-length-5 t c = search needs
 
-pass-returns-5 : (t : ℕ) → pass-lts.Need-returns-5 (pass-claims t) (pass-at t) pass.Post
-pass-returns-5 t c = let f = c .before .before in
+sweep-entry-returns-5 : (t : ℕ) → sweep-entry-lts.Need-returns-5 (sweep-entry-claims t) (sweep-entry-at t) sweep-entry.Post
+sweep-entry-returns-5 t c = let f = c .before .before in
     let e = f .before .before .before .before .before .before in
-    rw (f .add5 .ensures, f .before .before .before .before .add4 .ensures) (passing-fork (pass-entry t (e .before .before)) _ (e .enum-told4 .given .1))
+    rw (f .add5 .ensures, f .before .before .before .before .add4 .ensures) (sweeps-fork (sweep-entry-entry t (e .before .before)) _ (e .enum-told4 .given .1))
 
-pass-same-length-6 : (t : ℕ) → pass-lts.Need-same-length-6 (pass-claims t) (pass-at t) pass.Post
-pass-same-length-6 t c = search needs
+sweep-entry-same-length-6 : (t : ℕ) → sweep-entry-lts.Need-same-length-6 (sweep-entry-claims t) (sweep-entry-at t) sweep-entry.Post
+sweep-entry-same-length-6 t c = search needs
 
-pass-returns-6 : (t : ℕ) → pass-lts.Need-returns-6 (pass-claims t) (pass-at t) pass.Post
-pass-returns-6 t c = passing-no-path (pass-entry t (c .before .before)) _ (c .enum-told5 .given .1)
+sweep-entry-returns-6 : (t : ℕ) → sweep-entry-lts.Need-returns-6 (sweep-entry-claims t) (sweep-entry-at t) sweep-entry.Post
+sweep-entry-returns-6 t c = sweeps-no-path (sweep-entry-entry t (c .before .before)) _ (c .enum-told5 .given .1)
 
-pub +compare+compares-at+ends+evaluate+pass-spec : {M : Type 1} → statement M
-+compare+compares-at+ends+evaluate+pass-spec =
-    close μ-compare μ-compares-at μ-ends μ-evaluate μ-pass (λ t. compare-lts.spec (
+pub +compare+compares-at+ends+evaluate+sweep-entry-spec : {M : Type 1} → statement M
++compare+compares-at+ends+evaluate+sweep-entry-spec =
+    close μ-compare μ-compares-at μ-ends μ-evaluate μ-sweep-entry (λ t. compare-lts.spec (
       empty-reads.Asked,
       empty-reads.Learnt,
       compares-at-below t,
@@ -652,10 +652,10 @@ pub +compare+compares-at+ends+evaluate+pass-spec : {M : Type 1} → statement M
       only-reads.Learnt,
       store-reads.Asked,
       store-reads.Learnt,
-      top-reads.Asked,
-      top-reads.Learnt,
-      pass-below t,
-      pass.Post,
+      entries-swept-reads.Asked,
+      entries-swept-reads.Learnt,
+      sweep-entry-below t,
+      sweep-entry.Post,
       load-reads.Asked,
       load-reads.Learnt,
     )
@@ -666,11 +666,11 @@ pub +compare+compares-at+ends+evaluate+pass-spec : {M : Type 1} → statement M
     (ends-only-requires t)
     (ends-slice-aggregate-store t)
     (ends-store-requires t)
-    (ends-top-requires t)
+    (ends-entries-swept-requires t)
     (ends-loop-holds t)
     (ends-sub-j t)
-    (ends-slice-aggregate-pass t)
-    (ends-pass-requires t)
+    (ends-slice-aggregate-sweep-entry t)
+    (ends-sweep-entry-requires t)
     (ends-loop-less t)
     (ends-loop-again t)
     (ends-slice-aggregate-load t)
@@ -723,7 +723,7 @@ pub +compare+compares-at+ends+evaluate+pass-spec : {M : Type 1} → statement M
     (evaluate-enum-told-5 t)
     (evaluate-evaluate-requires-4 t)
     (evaluate-before-requires t)
-    (evaluate-enum-known-told t)
+    (evaluate-enum-known-node t)
     (evaluate-compare-requires t)
     (evaluate-enum-told-6 t)
     (evaluate-empty-requires t)
@@ -734,7 +734,7 @@ pub +compare+compares-at+ends+evaluate+pass-spec : {M : Type 1} → statement M
     (evaluate-returns-6 t)
     (evaluate-returns-7 t)
     (evaluate-returns-8 t))
-    λ t. pass-lts.spec (
+    λ t. sweep-entry-lts.spec (
       load-reads.Asked,
       load-reads.Learnt,
       is-empty-reads.Asked,
@@ -754,35 +754,35 @@ pub +compare+compares-at+ends+evaluate+pass-spec : {M : Type 1} → statement M
       meet-reads.Asked,
       meet-reads.Learnt,
     )
-    (pass-at t)
-    pass.Post
-    (pass-load-requires t)
-    (pass-is-empty-requires t)
-    (pass-same-length t)
-    (pass-returns t)
-    (pass-at-requires t)
-    (pass-path-kind-requires t)
-    (pass-enum-told t)
-    (pass-image-requires t)
-    (pass-add-requires t)
-    (pass-enum-told-2 t)
-    (pass-with-name-requires t)
-    (pass-add-requires-2 t)
-    (pass-enum-told-3 t)
-    (pass-evaluate-requires t)
-    (pass-meet-requires t)
-    (pass-add-requires-3 t)
-    (pass-enum-told-4 t)
-    (pass-add-requires-4 t)
-    (pass-add-requires-5 t)
-    (pass-enum-told-5 t)
-    (pass-same-length-2 t)
-    (pass-returns-2 t)
-    (pass-same-length-3 t)
-    (pass-returns-3 t)
-    (pass-same-length-4 t)
-    (pass-returns-4 t)
-    (pass-same-length-5 t)
-    (pass-returns-5 t)
-    (pass-same-length-6 t)
-    (pass-returns-6 t)
+    (sweep-entry-at t)
+    sweep-entry.Post
+    (sweep-entry-load-requires t)
+    (sweep-entry-is-empty-requires t)
+    (sweep-entry-same-length t)
+    (sweep-entry-returns t)
+    (sweep-entry-at-requires t)
+    (sweep-entry-path-kind-requires t)
+    (sweep-entry-enum-told t)
+    (sweep-entry-image-requires t)
+    (sweep-entry-add-requires t)
+    (sweep-entry-enum-told-2 t)
+    (sweep-entry-with-name-requires t)
+    (sweep-entry-add-requires-2 t)
+    (sweep-entry-enum-told-3 t)
+    (sweep-entry-evaluate-requires t)
+    (sweep-entry-meet-requires t)
+    (sweep-entry-add-requires-3 t)
+    (sweep-entry-enum-told-4 t)
+    (sweep-entry-add-requires-4 t)
+    (sweep-entry-add-requires-5 t)
+    (sweep-entry-enum-told-5 t)
+    (sweep-entry-same-length-2 t)
+    (sweep-entry-returns-2 t)
+    (sweep-entry-same-length-3 t)
+    (sweep-entry-returns-3 t)
+    (sweep-entry-same-length-4 t)
+    (sweep-entry-returns-4 t)
+    (sweep-entry-same-length-5 t)
+    (sweep-entry-returns-5 t)
+    (sweep-entry-same-length-6 t)
+    (sweep-entry-returns-6 t)

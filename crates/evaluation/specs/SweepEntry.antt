@@ -21,78 +21,78 @@ use Rattle.pattern.specs.File.Entries.{entryAt}
 use Rattle.pattern.specs.File.Reading.{countOf}
 use Rattle.pattern.specs.File.Valid.{Valid, EarlierNode, EarlierPath}
 use Rattle.evaluation.specs.declared.kinds.PathKind.{PathKind}
-use Rattle.evaluation.specs.Kinds.{pathKindOf, IsPathKind, path-told}
+use Rattle.evaluation.specs.Kinds.{pathKindOf, IsPathKind, path-kind-is}
 use Rattle.evaluation.specs.Tables.{successorsRow, nameRow}
 use Rattle.evaluation.specs.Members.{Image}
 use Rattle.evaluation.specs.Standing.{Lent, Standing, Evaluates, Ends}
 use Rattle.evaluation.specs.Entries.{earlier-path, refers-as, within-as}
 use Rattle.evaluation.specs.Evaluated.{lent-valid}
-use Rattle.evaluation.specs.Sweep.{addTo, topOf, pendingBytes, reference-fits, begun, Swept, swept-none, swept-one, swept-all, Passing, keeps-empty, keeps-no-path, keeps-step, keeps-jump, keeps-test, keeps-fork}
+use Rattle.evaluation.specs.Sweep.{addTo, entriesSwept, pendingBytes, reference-fits, begun, Swept, swept-none, swept-one, swept-all, EntrySwept, keeps-empty, keeps-no-path, keeps-step, keeps-jump, keeps-test, keeps-fork}
 
--- entry i of a sweep, read as e, of a kind that was told, with its pending set, which is not empty
-pub record PathEntry (bs table alike area : List ℕ) (i : ℕ) (e : Entry) (told : PathKind) (pending : List ℕ) (s : NodeSet) : Type 0 where
+-- entry i of a sweep, read as e, of this kind, with its pending set, which is not empty
+pub record PathEntry (bs table alike area : List ℕ) (i : ℕ) (e : Entry) (kind : PathKind) (pending : List ℕ) (s : NodeSet) : Type 0 where
   pub lent : Lent bs table alike area
   pub within : i < countOf bs
   pub long : pendingBytes ≤ length pending
   pub same : e ≡ entryAt bs i
-  pub by : told ≡ pathKindOf (e .kind)
+  pub by : kind ≡ pathKindOf (e .kind)
   pub set : s ≡ setAt pending i
   pub some : isEmpty s ≡ false
 
 -- nothing is pending
-pub passing-none : {bs table alike area : List ℕ} → Lent bs table alike area → (known i : ℕ) (pending : List ℕ)
-    → isEmpty (setAt pending i) ≡ true → Passing bs table alike area known i pending pending
-passing-none {bs} lent known i pending none w = keeps-empty (w .model) (w .named) bs (lent-valid lent) pending i none
+pub sweeps-none : {bs table alike area : List ℕ} → Lent bs table alike area → (known i : ℕ) (pending : List ℕ)
+    → isEmpty (setAt pending i) ≡ true → EntrySwept bs table alike area known i pending pending
+sweeps-none {bs} lent known i pending none w = keeps-empty (w .model) (w .named) bs (lent-valid lent) pending i none
 
-module _ {bs table alike area : List ℕ} {i : ℕ} {e : Entry} {told : PathKind} {pending : List ℕ} {s : NodeSet}
-    (n : PathEntry bs table alike area i e told pending s) where
-  kind-is : (t : PathKind) → told ≡ t → IsPathKind t (entryAt bs i .kind)
+module _ {bs table alike area : List ℕ} {i : ℕ} {e : Entry} {kind : PathKind} {pending : List ℕ} {s : NodeSet}
+    (n : PathEntry bs table alike area i e kind pending s) where
+  kind-is : (t : PathKind) → kind ≡ t → IsPathKind t (entryAt bs i .kind)
   kind-is t is =
       subst (λ (t′ : PathKind). IsPathKind t′ (entryAt bs i .kind)) is
-      (path-told (entryAt bs i .kind) told (n .by ∙ ap (λ (e′ : Entry). pathKindOf (e′ .kind)) (n .same)))
+      (path-kind-is (entryAt bs i .kind) kind (n .by ∙ ap (λ (e′ : Entry). pathKindOf (e′ .kind)) (n .same)))
 
   ok : Valid bs (countOf bs)
   ok = lent-valid (n .lent)
 
-  pub step-axis : told ≡ PathKind.Step → e .x ≤ maxAxis
+  pub step-axis : kind ≡ PathKind.Step → e .x ≤ maxAxis
   step-axis is = rw (n .same) (within-as ok i (n .within) Kind.Step (kind-is PathKind.Step is) .0)
 
-  pub jump-name : told ≡ PathKind.Jump → e .x ≤ maxName
+  pub jump-name : kind ≡ PathKind.Jump → e .x ≤ maxName
   jump-name is = rw (n .same) (within-as ok i (n .within) Kind.Jump (kind-is PathKind.Jump is) .0)
 
-  pub test-node : told ≡ PathKind.Test → EarlierNode bs i (e .x)
+  pub test-node : kind ≡ PathKind.Test → EarlierNode bs i (e .x)
   test-node is = rw (n .same) (refers-as ok i (n .within) Kind.Test (kind-is PathKind.Test is) .0)
 
-  pub test-rest : told ≡ PathKind.Test → tableBytes (e .y + 1) ≤ length pending
+  pub test-rest : kind ≡ PathKind.Test → tableBytes (e .y + 1) ≤ length pending
   test-rest is = rw (n .same)
       (le-trans (reference-fits ok (entryAt bs i .y) (earlier-path bs i (countOf bs) (entryAt bs i .y) (le-of-lt (n .within)) (refers-as ok i (n .within) Kind.Test (kind-is PathKind.Test is) .1))) (n .long))
 
   module _ (known : ℕ) where
-    pub passing-step : (t : NodeSet) → told ≡ PathKind.Step
+    pub sweeps-step : (t : NodeSet) → kind ≡ PathKind.Step
         → HasExactly (Image (λ u. setAt table (successorsRow (e .x) u)) s) t
-        → Passing bs table alike area known i pending (addTo pending (e .y) t)
-    passing-step t is image =
+        → EntrySwept bs table alike area known i pending (addTo pending (e .y) t)
+    sweeps-step t is image =
         rw (n .same)
         (λ w. keeps-step (w .model) (w .named) bs ok pending i (n .within) (n .long) table t (w .tabled) (kind-is PathKind.Step is) (rw (n .same, n .set) at image))
 
-    pub passing-jump : told ≡ PathKind.Jump → Passing bs table alike area known i pending (addTo pending (e .y) (setAt table (nameRow (e .x))))
-    passing-jump is =
+    pub sweeps-jump : kind ≡ PathKind.Jump → EntrySwept bs table alike area known i pending (addTo pending (e .y) (setAt table (nameRow (e .x))))
+    sweeps-jump is =
         rw (n .same)
         (λ w. keeps-jump (w .model) (w .named) bs ok pending i (n .within) (n .long) table (w .tabled) (kind-is PathKind.Jump is) (rw (n .set) at (n .some)))
 
-    pub passing-test : (t : NodeSet) → told ≡ PathKind.Test → Evaluates bs table alike area known (e .x) t
-        → Passing bs table alike area known i pending (addTo pending (e .y) (meet s t))
-    passing-test t is held =
+    pub sweeps-test : (t : NodeSet) → kind ≡ PathKind.Test → Evaluates bs table alike area known (e .x) t
+        → EntrySwept bs table alike area known i pending (addTo pending (e .y) (meet s t))
+    sweeps-test t is held =
         rw (n .same, n .set)
         (λ w. keeps-test (w .model) (w .named) bs ok pending i (n .within) (n .long) t (kind-is PathKind.Test is) ((rw (n .same) at held) w))
 
-    pub passing-fork : told ≡ PathKind.Fork → Passing bs table alike area known i pending (addTo (addTo pending (e .x) s) (e .y) s)
-    passing-fork is =
+    pub sweeps-fork : kind ≡ PathKind.Fork → EntrySwept bs table alike area known i pending (addTo (addTo pending (e .x) s) (e .y) s)
+    sweeps-fork is =
         rw (n .same, n .set)
         (λ w. keeps-fork (w .model) (w .named) bs ok pending i (n .within) (n .long) (kind-is PathKind.Fork is))
 
-    pub passing-no-path : told ≡ PathKind.NoPath → Passing bs table alike area known i pending pending
-    passing-no-path is w = keeps-no-path (w .model) (w .named) bs ok pending i (kind-is PathKind.NoPath is)
+    pub sweeps-no-path : kind ≡ PathKind.NoPath → EntrySwept bs table alike area known i pending pending
+    sweeps-no-path is w = keeps-no-path (w .model) (w .named) bs ok pending i (kind-is PathKind.NoPath is)
 
 -- ---- the sweep as a whole, in each model that the tables stand for
 abbrev pub SweptAt : (bs table alike area : List ℕ) → ℕ → ℕ → ℕ → List ℕ → ℕ → Type 0
@@ -100,11 +100,11 @@ SweptAt bs table alike area known first from pending j =
     (w : Standing bs table alike area known) (l : from < w .model .size) → Swept (w .model) (w .named) bs first (from, l) pending j
 
 module _ {bs table alike area : List ℕ} (lent : Lent bs table alike area) (known first from : ℕ) where
-  pub sweep-begins : EarlierPath bs (countOf bs) first → SweptAt bs table alike area known first from (begun first from) (topOf first)
+  pub sweep-begins : EarlierPath bs (countOf bs) first → SweptAt bs table alike area known first from (begun first from) (entriesSwept first)
   sweep-begins earlier w l = swept-none (w .model) (w .named) bs (lent-valid lent) first (from, l) (w .tabled .narrow) earlier
 
   pub sweep-goes-on : (j : ℕ) (before after : List ℕ) → 0 < j → SweptAt bs table alike area known first from before j
-      → Passing bs table alike area known (j - 1) before after → SweptAt bs table alike area known first from after (j - 1)
+      → EntrySwept bs table alike area known (j - 1) before after → SweptAt bs table alike area known first from after (j - 1)
   sweep-goes-on j before after pos s p w l = swept-one (w .model) (w .named) bs first (from, l) j before after pos (s w l) (p w)
 
   pub sweep-ends : (pending : List ℕ) → SweptAt bs table alike area known first from pending 0
@@ -112,6 +112,6 @@ module _ {bs table alike area : List ℕ} (lent : Lent bs table alike area) (kno
   sweep-ends pending s w l = swept-all (w .model) (w .named) bs first (from, l) pending (s w l)
 
 -- a sweep goes through entries before the one that refers to its first
-pub top-below : (bs : List ℕ) (k r : ℕ) → k ≤ 255 → EarlierPath bs k r → topOf r ≤ k
-top-below bs k r l (inl e) = rw (eq-eqb r endOfPath e) (omega arith)
-top-below bs k r l (inr h) = rw (ne-eqb r endOfPath (λ e. omega (arith, h .0))) (h .0)
+pub swept-below : (bs : List ℕ) (k r : ℕ) → k ≤ 255 → EarlierPath bs k r → entriesSwept r ≤ k
+swept-below bs k r l (inl e) = rw (eq-eqb r endOfPath e) (omega arith)
+swept-below bs k r l (inr h) = rw (ne-eqb r endOfPath (λ e. omega (arith, h .0))) (h .0)
