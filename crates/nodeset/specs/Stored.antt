@@ -10,6 +10,7 @@ use borrow.Author.Tests.{ltb-true}
 use lib.Dec.{ltb}
 use lib.ListN.{length, getD, replicate}
 use lib.Pow.{mod-pow-add}
+use Rattle.wire.specs.Fields.{word64At}
 use Rattle.wire.specs.Blocks.{putFrom, length-from, from-out, from-in, apart}
 use Rattle.nodeset.specs.declared.NodeSet.{NodeSet}
 use Rattle.nodeset.specs.Bits.{on, on-none, on-rest}
@@ -19,12 +20,6 @@ use Rattle.nodeset.specs.Set.{width, has}
 abbrev pub tableBytes : ℕ → ℕ
 tableBytes n = 8 * n
 
--- the number of 64 bits at place p
-abbrev pub bitsAt : List ℕ → ℕ → ℕ
-bitsAt xs p =
-    getD xs p 0 + getD xs (p + 1) 0 * 256 + getD xs (p + 2) 0 * 65536 + getD xs (p + 3) 0 * 16777216 + getD xs (p + 4) 0 * 4294967296
-    + getD xs (p + 5) 0 * 1099511627776 + getD xs (p + 6) 0 * 281474976710656 + getD xs (p + 7) 0 * 72057594037927936
-
 -- the eight bytes of a number
 abbrev pub bytesOf : ℕ → List ℕ
 bytesOf x =
@@ -33,7 +28,7 @@ bytesOf x =
 
 -- set i of a table
 unfoldable pub setAt : List ℕ → ℕ → NodeSet
-setAt xs i = record { bits = bitsAt xs (tableBytes i) }
+setAt xs i = record { bits = word64At xs (tableBytes i) }
 
 -- the table with s as its set i
 unfoldable pub put : List ℕ → ℕ → NodeSet → List ℕ
@@ -42,7 +37,7 @@ put xs i s = putFrom xs (tableBytes i) 0 (bytesOf (s .bits))
 -- ---- a number, stored and read
 
 -- the eight bytes of a number make its rest by 2 ^ 64
-bytes-rest : (x : ℕ) → bitsAt (bytesOf x) 0 ≡ x % 2 ^ 64
+bytes-rest : (x : ℕ) → word64At (bytesOf x) 0 ≡ x % 2 ^ 64
 bytes-rest x =
     add (x / 72057594037927936 % 256 * 72057594037927936) (add (x / 281474976710656 % 256 * 281474976710656)
     (add (x / 1099511627776 % 256 * 1099511627776) (add (x / 4294967296 % 256 * 4294967296)
@@ -55,7 +50,7 @@ bytes-rest x =
     step k = add-comm (x % 2 ^ k) (x / 2 ^ k % 2 ^ 8 * 2 ^ k) ∙ sym (mod-pow-add x 8 k)
 
 -- equal bytes make equal numbers
-word-same : (xs ys : List ℕ) (p q : ℕ) → ((k : ℕ) → k < 8 → getD xs (p + k) 0 ≡ getD ys (q + k) 0) → bitsAt xs p ≡ bitsAt ys q
+word-same : (xs ys : List ℕ) (p q : ℕ) → ((k : ℕ) → k < 8 → getD xs (p + k) 0 ≡ getD ys (q + k) 0) → word64At xs p ≡ word64At ys q
 word-same xs ys p q h =
     rw (
       sym (ap (λ (n : ℕ). getD xs n 0) (add-zero p)) ∙ h 0 (omega arith) ∙ ap (λ (n : ℕ). getD ys n 0) (add-zero q),
@@ -68,7 +63,7 @@ word-same xs ys p q h =
       h 7 (omega arith),
     ) refl
 
-word-put : (xs : List ℕ) (p x : ℕ) → p + 8 ≤ length xs → bitsAt (putFrom xs p 0 (bytesOf x)) p ≡ x % 2 ^ 64
+word-put : (xs : List ℕ) (p x : ℕ) → p + 8 ≤ length xs → word64At (putFrom xs p 0 (bytesOf x)) p ≡ x % 2 ^ 64
 word-put xs p x h =
     word-same (putFrom xs p 0 (bytesOf x)) (bytesOf x) p 0 (λ k l.
     ap (λ (n : ℕ). getD (putFrom xs p 0 (bytesOf x)) (n + k) 0) (sym (add-zero p))

@@ -4,7 +4,7 @@ ghost use mathlib.Core.Bool.{false};
 ghost use Prim.Native.Nat.{_+_, _≤_, _<_};
 ghost use lib.ListN.{length};
 ghost use Rattle.nodeset.specs.Set.{width, has, lowestOf, sizeOf, isEmpty, emptySet, below, only, insert, insertIf, union, meet, minus, butLowest};
-ghost use Rattle.nodeset.specs.Stored.{tableBytes, bitsAt, bytesOf, setAt, put};
+ghost use Rattle.nodeset.specs.Stored.{tableBytes, bytesOf, setAt, put};
 
 // A set of the nodes below WIDTH: node u is in it where bit u is 1.
 pub struct NodeSet {
@@ -133,7 +133,7 @@ impl NodeSet {
     {
         let at = Self::BYTES * i;
         NodeSet {
-            bits: word(table, at),
+            bits: wire::word64(table, at),
         }
     }
 
@@ -161,25 +161,4 @@ impl NodeSet {
             (bits / 72057594037927936 % 256) as u8,
         ]
     }
-}
-
-fn wide(byte: u8) -> u64
-    ensures { λ r. ⌜ (r ≡ byte) × (r < 256) ⌝ }
-{
-    byte as u64
-}
-
-// The 64-bit little-endian number at place i of the slice.
-fn word(s: &[u8], i: usize) -> u64
-    requires { ⌜ i + 8 ≤ length (now s) ⌝ }
-    ensures { λ r. ⌜ r ≡ bitsAt (now (s .entry)) i ⌝ }
-{
-    wide(s[i])
-        + wide(s[i + 1]) * 256
-        + wide(s[i + 2]) * 65536
-        + wide(s[i + 3]) * 16777216
-        + wide(s[i + 4]) * 4294967296
-        + wide(s[i + 5]) * 1099511627776
-        + wide(s[i + 6]) * 281474976710656
-        + wide(s[i + 7]) * 72057594037927936
 }

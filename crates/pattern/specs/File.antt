@@ -3,6 +3,5 @@ pub mod Types
 pub mod Table
 pub mod Fields
 pub mod Entries
-pub mod Words
 pub mod Reading
 pub mod Valid

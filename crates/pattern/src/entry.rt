@@ -2,10 +2,11 @@
 use crate::table::Kind;
 use crate::table::Sort;
 ghost use mathlib.Core.Path.{_≡_};
-ghost use Prim.Native.Nat.{_+_, _*_, _≤_};
-ghost use lib.ListN.{length};
-ghost use Rattle.pattern.specs.File.Entries.{entryAt};
+ghost use Rattle.pattern.specs.File.Entries.{HasEntry, entryAt};
 ghost use Rattle.pattern.specs.File.Reading.{sortAt};
+
+// The entries that a pattern has at most.
+pub const MAX_ENTRIES: usize = 255;
 
 pub struct Entry {
     pub kind: Kind,
@@ -17,7 +18,7 @@ pub struct Entry {
 impl Entry {
     // Entry k of the file.
     pub fn at(p: &[u8], k: u8) -> Entry
-        requires { ⌜ 10 + 4 * k ≤ length (now p) ⌝ }
+        requires { ⌜ HasEntry (now p) k ⌝ }
         ensures { λ r. ⌜ r ≡ entryAt (now (p .entry)) k ⌝ }
     {
         let at = 6 + 4 * (k as usize);
@@ -32,7 +33,7 @@ impl Entry {
 
 // The sort of entry k.
 pub fn sort_at(p: &[u8], k: u8) -> Sort
-    requires { ⌜ 10 + 4 * k ≤ length (now p) ⌝ }
+    requires { ⌜ HasEntry (now p) k ⌝ }
     ensures { λ r. ⌜ r ≡ sortAt (now (p .entry)) k ⌝ }
 {
     let e = Entry::at(p, k);

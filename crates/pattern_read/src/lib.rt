@@ -18,12 +18,12 @@ use pattern::types::NameMade;
 use pattern::types::Property;
 use pattern::types::PropertyMade;
 ghost use mathlib.Core.Path.{_≡_};
-ghost use Prim.Native.Nat.{_+_, _*_, _≤_, _<_};
+ghost use Prim.Native.Nat.{_+_, _*_};
 ghost use lib.ListN.{length};
+ghost use Rattle.wire.specs.Fields.{word32At};
 ghost use Rattle.pattern.specs.Checks.Range.{eachBelow};
 ghost use Rattle.pattern.specs.File.Fields.{eachField};
-ghost use Rattle.pattern.specs.File.Entries.{sameBytes};
-ghost use Rattle.pattern.specs.File.Words.{IsEntryWord};
+ghost use Rattle.pattern.specs.File.Entries.{offset, HasEntry, sameBytes};
 ghost use Rattle.pattern.specs.File.Reading.{inRange, earlierSort, refersBack, fieldTest, repeatsAt, headerCheck, entryCheck, readingOf, checkOf, findingOf};
 
 // Whether the value of a field is in the range of what the field holds.
@@ -55,7 +55,7 @@ fn in_range(field: Field, value: u8) -> bool
 
 // The sort of entry v if it stands before entry k; otherwise there is none.
 fn earlier_sort(p: &[u8], k: u8, v: u8) -> Sort
-    requires { ⌜ 10 + 4 * k ≤ length (now p) ⌝ }
+    requires { ⌜ HasEntry (now p) k ⌝ }
     ensures { λ r. ⌜ r ≡ earlierSort (now (p .entry)) k v ⌝ }
 {
     if v < k {
@@ -66,7 +66,7 @@ fn earlier_sort(p: &[u8], k: u8, v: u8) -> Sort
 
 // Whether a field of entry k, if it is a reference, refers to an earlier entry of its sort.
 fn refers_back(p: &[u8], k: u8, field: Field, value: u8) -> bool
-    requires { ⌜ 10 + 4 * k ≤ length (now p) ⌝ }
+    requires { ⌜ HasEntry (now p) k ⌝ }
     ensures { λ r. ⌜ r ≡ refersBack (now (p .entry)) k field value ⌝ }
 {
     match field {
@@ -87,7 +87,7 @@ fn refers_back(p: &[u8], k: u8, field: Field, value: u8) -> bool
 
 // Whether one field of entry k passes the test.
 fn field_passes(p: &[u8], k: u8, test: FieldTest, field: Field, value: u8) -> bool
-    requires { ⌜ 10 + 4 * k ≤ length (now p) ⌝ }
+    requires { ⌜ HasEntry (now p) k ⌝ }
     ensures { λ r. ⌜ r ≡ fieldTest (now (p .entry)) k test field value ⌝ }
 {
     match test {
@@ -98,7 +98,7 @@ fn field_passes(p: &[u8], k: u8, test: FieldTest, field: Field, value: u8) -> bo
 
 // Whether the three fields of entry k, which is e, pass the test.
 fn fields_pass(p: &[u8], k: u8, test: FieldTest, e: Entry) -> bool
-    requires { ⌜ 10 + 4 * k ≤ length (now p) ⌝ }
+    requires { ⌜ HasEntry (now p) k ⌝ }
     ensures { λ r. ⌜ r ≡ eachField (fieldTest (now (p .entry)) k test) e ⌝ }
 {
     let kind = e.kind;
@@ -115,26 +115,19 @@ fn fields_pass(p: &[u8], k: u8, test: FieldTest, e: Entry) -> bool
     field_passes(p, k, test, z, e.z)
 }
 
-// A byte, wide enough to be multiplied.
-fn wide(byte: u8) -> u32
-    ensures { λ r. ⌜ (r ≡ byte) × (r < 256) ⌝ }
-{
-    byte as u32
-}
-
 // The four bytes of entry k as one number.
 fn entry_word(p: &[u8], k: u8) -> u32
-    requires { ⌜ 10 + 4 * k ≤ length (now p) ⌝ }
-    ensures { λ r. ⌜ IsEntryWord (now (p .entry)) k r ⌝ }
+    requires { ⌜ HasEntry (now p) k ⌝ }
+    ensures { λ r. ⌜ r ≡ word32At (now (p .entry)) (offset k) ⌝ }
 {
     let at = 6 + 4 * (k as usize);
-    wide(p[at]) + 256 * (wide(p[at + 1]) + 256 * (wide(p[at + 2]) + 256 * wide(p[at + 3])))
+    wire::word32(p, at)
 }
 
 // Whether entries j and k have the same four bytes.
 fn same_entry(p: &[u8], j: u8, k: u8) -> bool
-    requires { ⌜ 10 + 4 * j ≤ length (now p) ⌝ }
-    requires { ⌜ 10 + 4 * k ≤ length (now p) ⌝ }
+    requires { ⌜ HasEntry (now p) j ⌝ }
+    requires { ⌜ HasEntry (now p) k ⌝ }
     ensures { λ r. ⌜ r ≡ sameBytes (now (p .entry)) j k ⌝ }
 {
     entry_word(p, j) == entry_word(p, k)
@@ -143,7 +136,7 @@ fn same_entry(p: &[u8], j: u8, k: u8) -> bool
 // Whether entry k is equal to an earlier one. Every earlier one is compared, without a way out of the
 // loop, so that the compiler can compare many at once.
 fn repeats(p: &[u8], k: u8) -> bool
-    requires { ⌜ 10 + 4 * k ≤ length (now p) ⌝ }
+    requires { ⌜ HasEntry (now p) k ⌝ }
     ensures { λ r. ⌜ r ≡ repeatsAt (now (p .entry)) k ⌝ }
 {
     let mut repeated = false;
@@ -181,7 +174,7 @@ fn check_header(p: &[u8]) -> PatternCheck
 
 // Refusals 4 to 7 of entry k.
 fn check_entry(p: &[u8], k: u8) -> PatternCheck
-    requires { ⌜ 10 + 4 * k ≤ length (now p) ⌝ }
+    requires { ⌜ HasEntry (now p) k ⌝ }
     ensures { λ r. ⌜ checkOf r ≡ entryCheck (now (p .entry)) k ⌝ }
 {
     let e = Entry::at(p, k);

@@ -1,4 +1,4 @@
--- The fields that the files of document 01 have in common: a mark at the front, and 16-bit little-endian numbers.
+-- What is read from bytes: a mark at the front, and little-endian numbers.
 -- Assumes nothing.
 use mathlib.Core.Path.{_≡_, refl}
 use mathlib.Core.Bool.{Bool, true, false, _&&_, and-false}
@@ -19,6 +19,17 @@ beginsWith (m ∷ ms) (b ∷ bs) = eqb b m && beginsWith ms bs
 -- 01: "All 16-bit fields in every file are little-endian."
 abbrev pub wordAt : List ℕ → ℕ → ℕ
 wordAt s i = getD s i 0 + getD s (i + 1) 0 * 256
+
+-- the like of 32 bits, as a model file's "32-bit little-endian property set", and of 64
+abbrev pub word32At : List ℕ → ℕ → ℕ
+word32At s i = getD s i 0 + getD s (i + 1) 0 * 256 + getD s (i + 2) 0 * 65536 + getD s (i + 3) 0 * 16777216
+
+abbrev pub word64At : List ℕ → ℕ → ℕ
+word64At s i =
+    word32At s i + getD s (i + 4) 0 * 4294967296 + getD s (i + 5) 0 * 1099511627776 + getD s (i + 6) 0 * 281474976710656
+    + getD s (i + 7) 0 * 72057594037927936
+
+-- ---- laws
 
 -- too short for the mark
 pub begins-short : (m s : List ℕ) → length s < length m → beginsWith m s ≡ false

@@ -1,9 +1,9 @@
-// Bytes that are lent: the fields that the files of document 01 have in common, the mark at the front
-// and 16-bit little-endian numbers; blocks of eight bytes in a table; clearing a working area.
+// Bytes that are lent: the mark at the front of a file and little-endian numbers of 16, 32 and 64 bits;
+// blocks of eight bytes in a table; clearing a working area.
 ghost use mathlib.Core.Path.{_≡_};
 ghost use Prim.Native.Nat.{_+_, _*_, _≤_, _<_};
 ghost use lib.ListN.{length, replicate};
-ghost use Rattle.wire.specs.Fields.{beginsWith, wordAt};
+ghost use Rattle.wire.specs.Fields.{beginsWith, wordAt, word32At, word64At};
 ghost use Rattle.wire.specs.Blocks.{putFrom};
 
 // Whether the slice begins with the mark.
@@ -23,10 +23,11 @@ pub fn begins(s: &[u8], mark: &[u8]) -> bool
     true
 }
 
-fn wide(byte: u8) -> u16
+// A byte, wide enough for the number that it is part of.
+fn wide(byte: u8) -> u64
     ensures { λ r. ⌜ (r ≡ byte) × (r < 256) ⌝ }
 {
-    byte as u16
+    byte as u64
 }
 
 // The 16-bit little-endian number at place i of the slice.
@@ -34,7 +35,30 @@ pub fn word(s: &[u8], i: usize) -> u16
     requires { ⌜ i + 1 < length (now s) ⌝ }
     ensures { λ r. ⌜ r ≡ wordAt (now (s .entry)) i ⌝ }
 {
-    wide(s[i]) + wide(s[i + 1]) * 256
+    (wide(s[i]) + wide(s[i + 1]) * 256) as u16
+}
+
+// The 32-bit little-endian number at place i of the slice.
+pub fn word32(s: &[u8], i: usize) -> u32
+    requires { ⌜ i + 4 ≤ length (now s) ⌝ }
+    ensures { λ r. ⌜ r ≡ word32At (now (s .entry)) i ⌝ }
+{
+    (wide(s[i]) + wide(s[i + 1]) * 256 + wide(s[i + 2]) * 65536 + wide(s[i + 3]) * 16777216) as u32
+}
+
+// The 64-bit little-endian number at place i of the slice.
+pub fn word64(s: &[u8], i: usize) -> u64
+    requires { ⌜ i + 8 ≤ length (now s) ⌝ }
+    ensures { λ r. ⌜ r ≡ word64At (now (s .entry)) i ⌝ }
+{
+    wide(s[i])
+        + wide(s[i + 1]) * 256
+        + wide(s[i + 2]) * 65536
+        + wide(s[i + 3]) * 16777216
+        + wide(s[i + 4]) * 4294967296
+        + wide(s[i + 5]) * 1099511627776
+        + wide(s[i + 6]) * 281474976710656
+        + wide(s[i + 7]) * 72057594037927936
 }
 
 // Block i of a table becomes this one.

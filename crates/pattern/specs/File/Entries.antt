@@ -2,15 +2,23 @@
 -- Assumes nothing.
 use mathlib.Core.Bool.{Bool, _&&_}
 use mathlib.Core.List.{List}
-use Prim.Native.Nat.{ℕ, _+_, _*_}
-use lib.ListN.{getD}
+use Prim.Native.Nat.{ℕ, _+_, _*_, _≤_}
+use lib.ListN.{length, getD}
 use lib.Dec.{eqb}
 use Rattle.pattern.specs.declared.entry.Entry.{Entry}
 use Rattle.pattern.specs.File.Table.{kindOf}
 
+-- "one byte n (1 to 255)"
+abbrev pub maxEntries : ℕ
+maxEntries = 255
+
 -- "then n entries of four bytes: kind, x, y, z", after the first six bytes: where entry k begins
 abbrev pub offset : ℕ → ℕ
 offset k = 6 + 4 * k
+
+-- the file is long enough for entry k
+abbrev pub HasEntry : List ℕ → ℕ → Type 0
+HasEntry bs k = 10 + 4 * k ≤ length bs
 
 abbrev pub entryAt : List ℕ → ℕ → Entry
 entryAt bs k =

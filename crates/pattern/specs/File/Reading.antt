@@ -17,13 +17,13 @@ use Rattle.pattern.specs.Checks.Finding.{Finding, found, refused, Check,
 use Rattle.pattern.specs.Checks.Range.{someBelow, eachBelow}
 use Rattle.pattern.specs.File.Table.{endOfPath, sortOf, isNeither, isNode, isPath}
 use Rattle.pattern.specs.File.Fields.{eachField}
-use Rattle.pattern.specs.File.Entries.{entryAt, sameBytes}
+use Rattle.pattern.specs.File.Entries.{maxEntries, entryAt, sameBytes}
 
 -- the mark `PAT`
 abbrev pub mark : List ℕ
 mark = 80 ∷ 65 ∷ 84 ∷ []
 
--- "one byte n (1 to 255)"
+-- the number of entries, "one byte n"
 abbrev pub countOf : List ℕ → ℕ
 countOf bs = getD bs 5 0
 
@@ -37,7 +37,7 @@ versionCheck bs = refusesIf (not (eqb (wordAt bs 3) 1)) 2 0
 
 -- "3: n zero or length not 6 + 4n." n is one byte, which a list of numbers does not say by itself
 abbrev pub countCheck : List ℕ → Check
-countCheck bs = refusesIf (eqb (countOf bs) 0 || (ltb 255 (countOf bs) || not (eqb (length bs) (6 + 4 * countOf bs)))) 3 0
+countCheck bs = refusesIf (eqb (countOf bs) 0 || (ltb maxEntries (countOf bs) || not (eqb (length bs) (6 + 4 * countOf bs)))) 3 0
 
 unfoldable pub headerCheck : List ℕ → Check
 headerCheck bs = markCheck bs then versionCheck bs then countCheck bs

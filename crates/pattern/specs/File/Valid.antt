@@ -17,7 +17,7 @@ use Rattle.pattern.specs.File.Types.{maxName, maxProperty, maxAxis, maxC
 use Rattle.pattern.specs.Checks.Finding.{found, refused, passes, refuses, _then_, then-passes, refusesIf-passes, found-passes, refused-refuses}
 use Rattle.pattern.specs.Checks.Range.{eachBelow, each-at, each-below, none-at, none-below}
 use Rattle.pattern.specs.File.Table.{endOfPath, isNode, isPath, isNeither}
-use Rattle.pattern.specs.File.Entries.{entryAt, sameBytes}
+use Rattle.pattern.specs.File.Entries.{maxEntries, entryAt, sameBytes}
 use Rattle.pattern.specs.File.Reading.{mark, countOf, inRange, sortIf, sortAt, earlierSort, refersBack, repeatsAt, headerCheck, kindCheck, fieldCheck, referenceCheck, repeatCheck, entryCheck, rootCheck, patternCheck, readingOf, markCheck, versionCheck, countCheck}
 use Rattle.pattern.specs.File.Fields.{OfFields, OfReference, OfReferences, each-field}
 
@@ -26,7 +26,7 @@ pub record Header (bs : List ℕ) : Type 0 where
   pub marked : beginsWith mark bs ≡ true
   pub version-one : wordAt bs 3 ≡ 1
   pub some-entry : 0 < countOf bs
-  pub one-byte : countOf bs ≤ 255
+  pub one-byte : countOf bs ≤ maxEntries
   pub length-is : length bs ≡ 6 + 4 * countOf bs
 
 -- a field's value is in the range of what the field holds
@@ -70,13 +70,13 @@ header-passes bs h =
     let marks = or-is-false (ltb (length bs) 6) (not (beginsWith mark bs)) (refusesIf-passes _ 1 0 (a .0)) in
     let n = countOf bs in
     let long = not (eqb (length bs) (6 + 4 * n)) in
-    let counts = or-is-false (eqb n 0) (ltb 255 n || long) (refusesIf-passes _ 3 0 (b .1)) in
-    let sizes = or-is-false (ltb 255 n) long (counts .1) in
+    let counts = or-is-false (eqb n 0) (ltb maxEntries n || long) (refusesIf-passes _ 3 0 (b .1)) in
+    let sizes = or-is-false (ltb maxEntries n) long (counts .1) in
     record {
       marked = not-false _ (marks .1);
       version-one = eqb-true _ _ (not-false _ (refusesIf-passes _ 2 0 (b .0)));
       some-entry = let not-zero = eqb-false n 0 (counts .0) in omega arith;
-      one-byte = ltb-false 255 n (sizes .0);
+      one-byte = ltb-false maxEntries n (sizes .0);
       length-is = eqb-true _ _ (not-false _ (sizes .1));
     }
 
@@ -89,7 +89,7 @@ header-accepted bs h =
       h .marked,
       eq-eqb _ _ (h .version-one),
       ne-eqb (countOf bs) 0 (λ e. omega (arith, h .some-entry)),
-      le-ltb 255 (countOf bs) (h .one-byte),
+      le-ltb maxEntries (countOf bs) (h .one-byte),
       eq-eqb _ _ (h .length-is),
     )
 

@@ -9,6 +9,7 @@ use mathlib.Core.Bool.{true, false}
 use lib.ListN.{length}
 use lib.Dec.{ltb, eqb}
 use Rattle.wire.specs.Fields.{beginsWith, wordAt}
+use Rattle.pattern.specs.File.Entries.{maxEntries}
 use Rattle.pattern.specs.File.Reading.{mark, countOf, headerCheck}
 use Rattle.pattern_read.proofs.check_header.Statement.{statement}
 use Rattle.pattern_read.proofs.check_header.Tie as tie
@@ -57,9 +58,9 @@ returns-4 c =
     let m = v .before .before in
     rw (long (m .before .before .before), marked m, version-one v, eq-eqb _ _ (c .if4 .taken))
 
-one-byte : (c : tie.Else4) → ltb 255 (countOf (c .before .before .before .before .before .before .before .before .before .args .p .now)) ≡ false
+one-byte : (c : tie.Else4) → ltb maxEntries (countOf (c .before .before .before .before .before .before .before .before .before .args .p .now)) ≡ false
 one-byte c =
-    le-ltb 255 (countOf (c .before .before .before .before .before .before .before .before .before .args .p .now))
+    le-ltb maxEntries (countOf (c .before .before .before .before .before .before .before .before .before .args .p .now))
     (omega (arith, c .before .shared-slice-known2 .given 5))
 
 cast-if5 : tie.Need-cast-if5

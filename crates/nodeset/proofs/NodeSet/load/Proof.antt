@@ -9,12 +9,12 @@ use Rattle.nodeset.proofs.NodeSet.load.Tie as tie
 mul-at : tie.Need-mul-at
 mul-at c = search needs
 
-word-requires : tie.Need-word-requires
-word-requires c κs = search needs
+word64-requires : tie.Need-word64-requires
+word64-requires c κs = search needs
 
 returns : tie.Need-returns
 unfolding setAt
-returns c = rw (c .word .ensures) refl
+returns c = rw (c .word64 .ensures) refl
 
 pub load-spec : {M : Type 1} → statement M
-load-spec = tie.close (tie.spec mul-at word-requires returns)
+load-spec = tie.close (tie.spec mul-at word64-requires returns)

@@ -1,4 +1,4 @@
--- An entry's four bytes as one number, by which the code compares two entries at once.
+-- Two entries are the same where their four bytes, each read as one number, are.
 -- Assumes nothing.
 use mathlib.Core.Path.{_≡_, refl, sym}
 use mathlib.Core.Bool.{Bool, true, false, _&&_, and-assoc}
@@ -8,18 +8,8 @@ use native.Mathlib.Omega.{arith}
 use lib.ListN.{getD}
 use lib.Dec.{eqb}
 use borrow.Author.Tests.{eqb-true, eqb-false, eq-eqb, ne-eqb}
+use Rattle.wire.specs.Fields.{word32At}
 use Rattle.pattern.specs.File.Entries.{offset, sameBytes}
-
--- the number of four bytes, the first lowest
-abbrev pub wordOf : ℕ → ℕ → ℕ → ℕ → ℕ
-wordOf a b c d = a + 256 * (b + 256 * (c + 256 * d))
-
--- w is the number of entry k, whose kind, x and y are below 256
-pub record IsEntryWord (bs : List ℕ) (k w : ℕ) : Type 0 where
-  pub word : w ≡ wordOf (getD bs (offset k) 0) (getD bs (offset k + 1) 0) (getD bs (offset k + 2) 0) (getD bs (offset k + 3) 0)
-  pub byte-kind : getD bs (offset k) 0 < 256
-  pub byte-x : getD bs (offset k + 1) 0 < 256
-  pub byte-y : getD bs (offset k + 2) 0 < 256
 
 -- numbers with a lowest byte are the same where the lowest bytes and the rest are
 byte-same : (x y x′ y′ : ℕ) → x < 256 → x′ < 256 → eqb (x + 256 * y) (x′ + 256 * y′) ≡ eqb x x′ && eqb y y′
@@ -34,16 +24,21 @@ regroup : (a b c d : Bool) → a && (b && (c && d)) ≡ a && b && c && d
 regroup true b c d = sym (and-assoc b c d)
 regroup false b c d = refl
 
--- entries have the same bytes where they have the same number
-pub word-same : (bs : List ℕ) (j k v w : ℕ) → IsEntryWord bs j v → IsEntryWord bs k w → eqb v w ≡ sameBytes bs j k
+-- entries have the same bytes where their four bytes make the same number
+pub word-same : (bs : List ℕ) (j k : ℕ) → ((i : ℕ) → getD bs i 0 < 256) → eqb (word32At bs (offset j)) (word32At bs (offset k)) ≡ sameBytes bs j k
 unfolding sameBytes
-word-same bs j k v w h i =
+word-same bs j k byte =
     let same : ℕ → Bool = λ n. eqb (getD bs (offset j + n) 0) (getD bs (offset k + n) 0) in
     rw (
-      h .word,
-      i .word,
-      byte-same _ _ _ _ (h .byte-kind) (i .byte-kind),
-      byte-same _ _ _ _ (h .byte-x) (i .byte-x),
-      byte-same _ _ _ _ (h .byte-y) (i .byte-y),
+      lowest-first bs (offset j),
+      lowest-first bs (offset k),
+      byte-same _ _ _ _ (byte (offset j)) (byte (offset k)),
+      byte-same _ _ _ _ (byte (offset j + 1)) (byte (offset k + 1)),
+      byte-same _ _ _ _ (byte (offset j + 2)) (byte (offset k + 2)),
     )
     (regroup (eqb (getD bs (offset j) 0) (getD bs (offset k) 0)) (same 1) (same 2) (same 3))
+  where
+    -- a number, byte by byte
+    lowest-first : (s : List ℕ) (i : ℕ)
+        → word32At s i ≡ getD s i 0 + 256 * (getD s (i + 1) 0 + 256 * (getD s (i + 2) 0 + 256 * getD s (i + 3) 0))
+    lowest-first s i = omega arith
