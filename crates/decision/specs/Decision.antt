@@ -42,7 +42,8 @@ unfoldable mutual
       someBelow (F .size) (λ v. someBelow (F .size) (λ w.
       leadsTest F α u v && leadsTest F β u w && compared c (eqb (F .value e v) (F .value e w))))
 
--- ---- each connective of tests has the meaning of its connective of statements
+-- ---- laws
+-- each connective of tests has the meaning of its connective of statements
 both-decided : {A B : Type 0} (a b : Bool) → ((a ≡ true) ↔ A) → ((b ≡ true) ↔ B) → (a && b ≡ true) ↔ (A × B)
 both-decided a b f g = (λ h. let r = and-is-true a b h in (f .0 (r .0), g .0 (r .1)), λ h. rw (f .1 (h .0)) (g .1 (h .1)))
 
