@@ -4,7 +4,7 @@ use mathlib.Core.Path.{_≡_, _∙_, ap, subst}
 use mathlib.Core.Bool.{Bool, true}
 use mathlib.Core.Logic.{_↔_}
 use mathlib.Core.List.{List}
-use Prim.Native.Nat.{ℕ, _+_, _*_, _≤_, _<_}
+use Prim.Native.Nat.{ℕ, _+_, _≤_, _<_}
 use native.Mathlib.Omega.{arith}
 use native.Mathlib.Nat.{lt-of-lt-of-le}
 use lib.ListN.{length}
@@ -17,7 +17,7 @@ use Rattle.pattern.specs.declared.table.Sort.{Sort}
 use Rattle.pattern.specs.declared.table.Kind.{Kind}
 use Rattle.pattern.specs.declared.entry.Entry.{Entry}
 use Rattle.pattern.specs.File.Types.{maxAxis, maxProperty, maxName, maxChannel}
-use Rattle.pattern.specs.File.Entries.{entryAt}
+use Rattle.pattern.specs.File.Entries.{HasEntry, entryAt}
 use Rattle.pattern.specs.File.Reading.{countOf, sortAt}
 use Rattle.pattern.specs.File.Valid.{Valid, EarlierNode, EarlierPath, valid}
 use Rattle.evaluation.specs.declared.kinds.NodeKind.{NodeKind}
@@ -28,17 +28,6 @@ use Rattle.evaluation.specs.Standing.{slotOf, Lent, Standing, Evaluates,
 use Rattle.evaluation.specs.Entries.{refers-as, within-as}
 use Rattle.evaluation.specs.Nodes.{Before, Pair, ComparesIn, ComparesAt, compares-here, nodes-property, nodes-name, nodes-not, nodes-both, nodes-after, nodes-compare}
 
-pub lent-valid : {bs table alike area : List ℕ} → Lent bs table alike area → Valid bs (countOf bs)
-lent-valid {bs} lent = valid bs (countOf bs) (lent .read)
-
--- an entry stands within the file
-pub entry-long : {bs table alike area : List ℕ} → Lent bs table alike area → (k : ℕ) → k < countOf bs → 10 + 4 * k ≤ length bs
-entry-long lent k l = omega (arith, l, lent-valid lent .header .length-is)
-
--- and its set within the area
-pub set-long : {bs table alike area : List ℕ} → Lent bs table alike area → (k : ℕ) → k < countOf bs → tableBytes (slotOf bs k + 1) ≤ length area
-set-long lent k l = omega (arith, l, lent .area-long, lent-valid lent .header .one-byte)
-
 -- node entry k, read as e, of this kind
 pub record NodeEntry (bs table alike area : List ℕ) (k : ℕ) (e : Entry) (kind : NodeKind) : Type 0 where
   pub lent : Lent bs table alike area
@@ -46,6 +35,22 @@ pub record NodeEntry (bs table alike area : List ℕ) (k : ℕ) (e : Entry) (kin
   pub node : sortAt bs k ≡ Sort.Node
   pub same : e ≡ entryAt bs k
   pub by : kind ≡ nodeKindOf (e .kind)
+
+-- the nodes of a comparison collected so far, in each model
+abbrev pub CollectedAt : (bs table alike area : List ℕ) → ℕ → ℕ → Comparison → ℕ → NodeSet → Type 0
+CollectedAt bs table alike area known k c u s = (w : Standing bs table alike area known) → Collected (ComparesIn w k c) u s
+
+-- ---- laws
+pub lent-valid : {bs table alike area : List ℕ} → Lent bs table alike area → Valid bs (countOf bs)
+lent-valid {bs} lent = valid bs (countOf bs) (lent .read)
+
+-- an entry stands within the file
+pub entry-long : {bs table alike area : List ℕ} → Lent bs table alike area → (k : ℕ) → k < countOf bs → HasEntry bs k
+entry-long lent k l = omega (arith, l, lent-valid lent .header .length-is)
+
+-- and its set within the area
+pub set-long : {bs table alike area : List ℕ} → Lent bs table alike area → (k : ℕ) → k < countOf bs → tableBytes (slotOf bs k + 1) ≤ length area
+set-long lent k l = omega (arith, l, lent .area-long, lent-valid lent .header .one-byte)
 
 module _ {bs table alike area : List ℕ} {k : ℕ} {e : Entry} {kind : NodeKind} (n : NodeEntry bs table alike area k e kind) where
   kind-is : (t : NodeKind) → kind ≡ t → IsNodeKind t (entryAt bs k .kind)
@@ -103,11 +108,7 @@ module _ {bs table alike area : List ℕ} {k : ℕ} {e : Entry} {kind : NodeKind
     pub evaluates-none : (s : NodeSet) → kind ≡ NodeKind.NoNode → Evaluates bs table alike area known k s
     evaluates-none s is w = absurd (kind-is NodeKind.NoNode is (n .node))
 
--- ---- a comparison
--- the nodes collected so far, in each model
-abbrev pub CollectedAt : (bs table alike area : List ℕ) → ℕ → ℕ → Comparison → ℕ → NodeSet → Type 0
-CollectedAt bs table alike area known k c u s = (w : Standing bs table alike area known) → Collected (ComparesIn w k c) u s
-
+-- a comparison
 module _ {bs table alike area : List ℕ} (lent : Lent bs table alike area) (k : ℕ) (l : k < countOf bs) (c : Comparison)
     (kind : entryAt bs k .kind ≡ comparing c) where
   fields : (d : Comparison) → entryAt bs k .kind ≡ comparing d

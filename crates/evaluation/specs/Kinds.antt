@@ -41,7 +41,7 @@ abbrev pub comparing : Comparison → Kind
 comparing Comparison.Same = Kind.Same
 comparing Comparison.Differ = Kind.Differ
 
--- ---- what each says of the kind itself
+-- what each says of the kind itself
 abbrev pub IsNodeKind : NodeKind → Kind → Type 0
 IsNodeKind NodeKind.Property κ = κ ≡ Kind.Property
 IsNodeKind NodeKind.Name κ = κ ≡ Kind.Name
@@ -58,6 +58,7 @@ IsPathKind PathKind.Test κ = κ ≡ Kind.Test
 IsPathKind PathKind.Fork κ = κ ≡ Kind.Fork
 IsPathKind PathKind.NoPath κ = sortOf κ ≡ Sort.Path → ⊥
 
+-- ---- laws
 is-node-kind : (κ : Kind) → IsNodeKind (nodeKindOf κ) κ
 is-node-kind Kind.Property = refl
 is-node-kind Kind.Name = refl

@@ -28,6 +28,7 @@ Knows bs table alike area known = (F : Finite) (ok : Named F) → Tabled F table
 abbrev pub KnowsOneMore : (bs table alike : List ℕ) → ℕ → (before after : List ℕ) → Type 0
 KnowsOneMore bs table alike k before after = Knows bs table alike before k → Knows bs table alike after (k + 1)
 
+-- ---- laws
 pub node-known : (bs table alike area : List ℕ) (k : ℕ) (s : NodeSet) → tableBytes (k + 1) ≤ length area → sortAt bs k ≡ Sort.Node
     → Evaluates bs table alike area k k s → KnowsOneMore bs table alike k area (put area k s)
 node-known bs table alike area k s long node set known F ok tabled values j l n =
@@ -53,7 +54,7 @@ path-passed-over bs table alike area k path known F ok tabled values j l n = whi
     which j n known true e l = absurd (path (subst (λ (m : ℕ). sortAt bs m ≡ Sort.Node) (eqb-true j k e) n))
     which j n known false e l = let other = eqb-false j k e in known (omega arith) n
 
--- ---- the loop over the entries
+-- the loop over the entries
 pub knows-none : (bs table alike area : List ℕ) → Knows bs table alike area 0
 knows-none bs table alike area F ok tabled values j l n = absurd (not-suc-le-zero l)
 

@@ -27,8 +27,8 @@ use Rattle.pattern.specs.Logic.Finite.{Finite, Named, NodeOf, node-same, modelO
 use Rattle.pattern.specs.Meaning.Agreement.{published}
 use Rattle.evaluation.specs.Tables.{IsSet, Tabled, successorsRow, nameRow}
 use Rattle.evaluation.specs.Members.{Image}
-use Rattle.evaluation.specs.Standing.{Holding, Leading, Standing}
-use Rattle.evaluation.specs.Entries.{earlier-path, refers-as, within-as, path-clause}
+use Rattle.evaluation.specs.Standing.{pendingBytes, Holding, Leading}
+use Rattle.evaluation.specs.Entries.{reference-fits, earlier-path, refers-as, within-as, path-clause}
 
 -- a set added to the pending set of a reference
 abbrev pub addTo : List ℕ → ℕ → NodeSet → List ℕ
@@ -37,15 +37,6 @@ addTo pending r s = put pending r (union (setAt pending r) s)
 -- the entries that a sweep from reference r goes through: it and those below it, none from the end of path
 abbrev pub entriesSwept : ℕ → ℕ
 entriesSwept r = pick (eqb r endOfPath) 0 (suc r)
-
--- a pending set for each reference, the end of path the last
-abbrev pub pendingBytes : ℕ
-pendingBytes = tableBytes 256
-
--- a reference of the pattern has its place among them
-pub reference-fits : {bs : List ℕ} {n : ℕ} → Valid bs n → (r : ℕ) → EarlierPath bs n r → tableBytes (r + 1) ≤ pendingBytes
-reference-fits valid r (inl e) = omega (arith, e)
-reference-fits valid r (inr h) = omega (arith, h .0, valid .header .one-byte, valid .count-is)
 
 -- a sweep begins with one node, pending at its reference
 abbrev pub begun : ℕ → ℕ → List ℕ
@@ -78,6 +69,7 @@ module _ (F : Finite) (ok : Named F) (bs : List ℕ) where
     pub all-inside : AllInside pending
     pub ends-are : (v : NodeOf F) → Leading F ok bs r u v ↔ Reached pending j v
 
+-- ---- laws
   pub swept-one : (r : ℕ) (u : NodeOf F) (j : ℕ) (before after : List ℕ) → 0 < j → Swept r u before j → KeepsEnds (j - 1) before after
       → Swept r u after (j - 1)
   swept-one r u j before after pos s p =
@@ -97,7 +89,7 @@ module _ (F : Finite) (ok : Named F) (bs : List ℕ) where
       last l (inl h) = h
       last l (inr (i, (below, p, b))) = absurd (not-suc-le-zero below)
 
-  -- ---- adding to a pending set
+  -- adding to a pending set
   module _ (pending : List ℕ) (r : ℕ) (s : NodeSet) (long : tableBytes (r + 1) ≤ length pending) where
     -- who is in a pending set now: who was there, and at the reference the set that was added
     added : (j u : ℕ) → (has (setAt (addTo pending r s) j) u ≡ true) ↔ ((has (setAt pending j) u ≡ true) ⊎ ((j ≡ r) × (has s u ≡ true)))
@@ -400,7 +392,7 @@ module _ (F : Finite) (ok : Named F) (bs : List ℕ) where
               back (inl (inr (u, (m, lead)))) = inr (ap sortOf fork, (u, (m, clause u v .1 (inl lead))))
               back (inr (u, (m, lead))) = inr (ap sortOf fork, (u, (m, clause u v .1 (inr lead))))
 
-    -- ---- the sweep as a whole
+    -- the sweep as a whole
     module _ (r : ℕ) (u : NodeOf F) (narrow : F .size ≤ width) where
       begun-has : tableBytes (r + 1) ≤ pendingBytes → (i w : ℕ) → (has (setAt (begun r (u .0)) i) w ≡ true) ↔ ((i ≡ r) × (w ≡ u .0))
       begun-has long i w = go (eqb i r) refl
@@ -451,8 +443,3 @@ module _ (F : Finite) (ok : Named F) (bs : List ℕ) where
           back v earlier (inr (i, (l, p, (w, (h, lead))))) =
               let m = new i (w .0) .0 h in
               subst (λ (x : NodeOf F). Leading F ok bs r x v) (node-same F (m .1)) (subst (λ (k : ℕ). Leading F ok bs k w v) (m .0) lead)
-
--- one entry of the sweep, in each model that the tables stand for
-abbrev pub EntrySwept : (bs table alike area : List ℕ) → ℕ → ℕ → List ℕ → List ℕ → Type 0
-EntrySwept bs table alike area known i before after =
-    (w : Standing bs table alike area known) → KeepsEnds (w .model) (w .named) bs i before after

@@ -17,17 +17,17 @@ use Rattle.pattern.specs.declared.table.Kind.{Kind}
 use Rattle.pattern.specs.declared.entry.Entry.{Entry}
 use Rattle.pattern.specs.File.Types.{maxAxis, maxName}
 use Rattle.pattern.specs.File.Table.{endOfPath}
-use Rattle.pattern.specs.File.Entries.{entryAt}
+use Rattle.pattern.specs.File.Entries.{maxEntries, entryAt}
 use Rattle.pattern.specs.File.Reading.{countOf}
 use Rattle.pattern.specs.File.Valid.{Valid, EarlierNode, EarlierPath}
 use Rattle.evaluation.specs.declared.kinds.PathKind.{PathKind}
 use Rattle.evaluation.specs.Kinds.{pathKindOf, IsPathKind, path-kind-is}
 use Rattle.evaluation.specs.Tables.{successorsRow, nameRow}
 use Rattle.evaluation.specs.Members.{Image}
-use Rattle.evaluation.specs.Standing.{Lent, Standing, Evaluates, Ends}
-use Rattle.evaluation.specs.Entries.{earlier-path, refers-as, within-as}
+use Rattle.evaluation.specs.Standing.{pendingBytes, Lent, Standing, Evaluates, Ends}
+use Rattle.evaluation.specs.Entries.{reference-fits, earlier-path, refers-as, within-as}
 use Rattle.evaluation.specs.Evaluated.{lent-valid}
-use Rattle.evaluation.specs.Sweep.{addTo, entriesSwept, pendingBytes, reference-fits, begun, Swept, swept-none, swept-one, swept-all, EntrySwept, keeps-empty, keeps-no-path, keeps-step, keeps-jump, keeps-test, keeps-fork}
+use Rattle.evaluation.specs.Sweep.{addTo, entriesSwept, begun, KeepsEnds, Swept, swept-none, swept-one, swept-all, keeps-empty, keeps-no-path, keeps-step, keeps-jump, keeps-test, keeps-fork}
 
 -- entry i of a sweep, read as e, of this kind, with its pending set, which is not empty
 pub record PathEntry (bs table alike area : List ℕ) (i : ℕ) (e : Entry) (kind : PathKind) (pending : List ℕ) (s : NodeSet) : Type 0 where
@@ -39,6 +39,17 @@ pub record PathEntry (bs table alike area : List ℕ) (i : ℕ) (e : Entry) (kin
   pub set : s ≡ setAt pending i
   pub some : isEmpty s ≡ false
 
+-- one entry of the sweep, in each model that the tables stand for
+abbrev pub EntrySwept : (bs table alike area : List ℕ) → ℕ → ℕ → List ℕ → List ℕ → Type 0
+EntrySwept bs table alike area known i before after =
+    (w : Standing bs table alike area known) → KeepsEnds (w .model) (w .named) bs i before after
+
+-- the sweep as a whole, in each model that the tables stand for
+abbrev pub SweptAt : (bs table alike area : List ℕ) → ℕ → ℕ → ℕ → List ℕ → ℕ → Type 0
+SweptAt bs table alike area known first from pending j =
+    (w : Standing bs table alike area known) (l : from < w .model .size) → Swept (w .model) (w .named) bs first (from, l) pending j
+
+-- ---- laws
 -- nothing is pending
 pub sweeps-none : {bs table alike area : List ℕ} → Lent bs table alike area → (known i : ℕ) (pending : List ℕ)
     → isEmpty (setAt pending i) ≡ true → EntrySwept bs table alike area known i pending pending
@@ -94,11 +105,7 @@ module _ {bs table alike area : List ℕ} {i : ℕ} {e : Entry} {kind : PathKind
     pub sweeps-no-path : kind ≡ PathKind.NoPath → EntrySwept bs table alike area known i pending pending
     sweeps-no-path is w = keeps-no-path (w .model) (w .named) bs ok pending i (kind-is PathKind.NoPath is)
 
--- ---- the sweep as a whole, in each model that the tables stand for
-abbrev pub SweptAt : (bs table alike area : List ℕ) → ℕ → ℕ → ℕ → List ℕ → ℕ → Type 0
-SweptAt bs table alike area known first from pending j =
-    (w : Standing bs table alike area known) (l : from < w .model .size) → Swept (w .model) (w .named) bs first (from, l) pending j
-
+-- the sweep as a whole
 module _ {bs table alike area : List ℕ} (lent : Lent bs table alike area) (known first from : ℕ) where
   pub sweep-begins : EarlierPath bs (countOf bs) first → SweptAt bs table alike area known first from (begun first from) (entriesSwept first)
   sweep-begins earlier w l = swept-none (w .model) (w .named) bs (lent-valid lent) first (from, l) (w .tabled .narrow) earlier
@@ -112,6 +119,6 @@ module _ {bs table alike area : List ℕ} (lent : Lent bs table alike area) (kno
   sweep-ends pending s w l = swept-all (w .model) (w .named) bs first (from, l) pending (s w l)
 
 -- a sweep goes through entries before the one that refers to its first
-pub swept-below : (bs : List ℕ) (k r : ℕ) → k ≤ 255 → EarlierPath bs k r → entriesSwept r ≤ k
+pub swept-below : (bs : List ℕ) (k r : ℕ) → k ≤ maxEntries → EarlierPath bs k r → entriesSwept r ≤ k
 swept-below bs k r l (inl e) = rw (eq-eqb r endOfPath e) (omega arith)
 swept-below bs k r l (inr h) = rw (ne-eqb r endOfPath (λ e. omega (arith, h .0))) (h .0)

@@ -11,8 +11,9 @@ use Rattle.pattern.specs.File.Valid.{EarlierNode, EarlierPath}
 use Rattle.pattern.specs.File.Reading.{countOf, sortAt}
 use Rattle.pattern.specs.declared.table.Sort.{Sort}
 use Rattle.pattern.specs.File.Types.{maxChannel}
-use Rattle.evaluation.specs.Standing.{Lent}
-use Rattle.evaluation.specs.Sweep.{entriesSwept, pendingBytes}
+use Rattle.pattern.specs.File.Entries.{maxEntries}
+use Rattle.evaluation.specs.Standing.{pendingBytes, Lent}
+use Rattle.evaluation.specs.Sweep.{entriesSwept}
 use Rattle.evaluation.specs.Nodes.{compares-nowhere}
 use Rattle.evaluation.specs.Entries.{earlier-path}
 use Rattle.evaluation.specs.Evaluated.{entry-long, set-long, lent-valid, NodeEntry, property-within, name-within, axis-within, not-refers, both-refers, after-refers, compares, evaluates-property, evaluates-name, evaluates-not, evaluates-both, evaluates-after, evaluates-none, compare-fields, compares-so, CollectedAt, collects-none, collects-next, evaluates-compare}
@@ -264,7 +265,7 @@ compares-at-fields t c =
     let lent = s .pre .1 .0 in
     let l = s .pre .1 .1 .0 .0 in
     let f = compare-fields lent (a .k) l (a .c) (s .pre .1 .1 .0 .1) e (c .at .ensures) in
-    let few : a .k ≤ 255 = omega (arith, l, lent-valid lent .header .one-byte) in
+    let few : a .k ≤ maxEntries = omega (arith, l, lent-valid lent .header .one-byte) in
     let below : a .k ≤ countOf (a .p .now) = omega (arith, l) in (
       f .0,
       earlier-path (a .p .now) (a .k) (countOf (a .p .now)) (e .y) below (f .1),
