@@ -69,7 +69,7 @@ module _ (F : Finite) (ok : Named F) (bs : List ℕ) where
     pub all-inside : AllInside pending
     pub ends-are : (v : NodeOf F) → Leading F ok bs r u v ↔ Reached pending j v
 
--- ---- laws
+  -- ---- laws
   pub swept-one : (r : ℕ) (u : NodeOf F) (j : ℕ) (before after : List ℕ) → 0 < j → Swept r u before j → KeepsEnds (j - 1) before after
       → Swept r u after (j - 1)
   swept-one r u j before after pos s p =

@@ -6,13 +6,16 @@ use evaluation::rows::NODES;
 use evaluation::rows::PROPERTIES;
 use evaluation::rows::TABLE_BYTES;
 use evaluation::rows::row_of;
-use model_file::byte;
+use model_file::edge_axis;
 use model_file::edge_count;
-use model_file::edge_record;
+use model_file::edge_from;
+use model_file::edge_to;
+use model_file::has_property;
 use model_file::name_count;
-use model_file::name_record;
+use model_file::name_of;
 use model_file::node_count;
-use model_file::node_record;
+use model_file::node_of_record;
+use model_file::value_on;
 use nodeset::NodeSet;
 use pattern::types::Channel;
 use pattern::types::Name;
@@ -28,25 +31,11 @@ ghost use Rattle.pattern.specs.File.Types.{maxProperty, maxChannel};
 ghost use Rattle.pattern.specs.File.Reading.{countOf, readingOf};
 ghost use Rattle.evaluation.specs.Tables.{propertyRow, modelRows, alikeRow, alikeRows, IsSet, Tabled, Alike};
 ghost use Rattle.evaluation.specs.Standing.{areaBytes};
-ghost use Rattle.model_file.specs.Layout.{nodeCount, edgeCount, nodeRecord, valueOn};
+ghost use Rattle.model_file.specs.Layout.{nodeCount, edgeCount, valueOn};
 ghost use Rattle.model_file.specs.Contents.{hasProperty, modelFrom};
 ghost use Rattle.model_file.specs.Valid.{ValidModel};
 ghost use Rattle.model_tables.specs.Root.{rootHolds};
 ghost use Rattle.model_tables.specs.Tables.{WithProperty, AlikeTo, linkOf, Filled, NamesAtZero, NamesListed, Linked};
-
-// Whether property p is in the property set of node u.
-fn has_property(d: &[u8], p: u8, u: u8) -> bool
-    requires { ⌜ nodeRecord u + 4 ≤ length (now d) ⌝ }
-    requires { ⌜ p ≤ maxProperty ⌝ }
-    ensures { λ r. ⌜ r ≡ hasProperty (now (d .entry)) p u ⌝ }
-{
-    let at = node_record(u);
-    let set = byte(d, at)
-        + byte(d, at + 1) * 256
-        + byte(d, at + 2) * 65536
-        + byte(d, at + 3) * 16777216;
-    (set >> p) % 2 == 1
-}
 
 // The nodes that have property p.
 fn property_set(d: &[u8], p: u8) -> NodeSet
@@ -100,9 +89,8 @@ fn list_names(d: &[u8], table: &mut [u8])
     let m = name_count(d);
     let mut j = 0;
     while j < m {
-        let at = name_record(d, j);
-        let set = NodeSet::only(d[at + 1]);
-        set.store(table, NAMES + byte(d, at));
+        let set = NodeSet::only(node_of_record(d, j));
+        set.store(table, NAMES + (name_of(d, j) as usize));
         j += 1;
     }
 }
@@ -114,11 +102,10 @@ fn add_edge(d: &[u8], table: &mut [u8], i: u16)
     requires { ⌜ i < edgeCount (now d) ⌝ }
     ensures { λ r. ⌜ now (table .exit) ≡ linkOf (now (d .entry)) i (now (table .entry)) ⌝ }
 {
-    let at = edge_record(d, i);
-    let axis = d[at + 1];
-    let row = row_of(axis, d[at]);
+    let axis = edge_axis(d, i);
+    let row = row_of(axis, edge_from(d, i));
     let set = NodeSet::load(table, row);
-    let grown = set.insert(d[at + 2]);
+    let grown = set.insert(edge_to(d, i));
     grown.store(table, row);
 }
 
@@ -135,15 +122,6 @@ fn fill_successors(d: &[u8], table: &mut [u8])
         add_edge(d, table, i);
         i += 1;
     }
-}
-
-// The value of node u on channel e.
-fn value_on(d: &[u8], e: u8, u: u8) -> u16
-    requires { ⌜ nodeRecord u + 12 ≤ length (now d) ⌝ }
-    requires { ⌜ e ≤ maxChannel ⌝ }
-    ensures { λ r. ⌜ r ≡ valueOn (now (d .entry)) e u ⌝ }
-{
-    wire::word(d, node_record(u) + 4 + 2 * (e as usize))
 }
 
 // The nodes whose value on channel e is that of node u.

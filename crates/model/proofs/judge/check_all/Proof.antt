@@ -36,7 +36,7 @@ pattern-passed c =
 
 returns-2 : tie.Need-returns-2
 unfolding judgingCheck
-returns-2 c = rw (pattern-passed (c .before), lt-ltb _ 2040 (c .if1 .taken))
+returns-2 c = rw (pattern-passed (c .before), lt-ltb (c .before .before .before .before .before .before .args .size) 2040 (c .if1 .taken))
 
 check-requires : tie.Need-check-requires
 check-requires c κs = search needs

@@ -1,11 +1,12 @@
 -- `model::judge::judged` meets its contract, by the laws of `judgedBy`.
 -- Assumes nothing.
 use borrow.Author.Needs.{needs}
-use mathlib.Core.Path.{sym, _∙_, ap}
+use Prim.Native.Nat.{ℕ}
+use mathlib.Core.Path.{sym, _∙_, ap, ap₂}
 use borrow.Author.Tests.{eqb-true}
 use Rattle.nodeset.specs.Set.{width, has, sizeOf}
 use Rattle.pattern.specs.Checks.Finding.{found}
-use Rattle.decision.specs.Judged.{judged-empty, judged-low}
+use Rattle.decision.specs.Judged.{met, judged-empty, judged-low}
 use Rattle.nodeset.specs.Members.{lowest-member}
 use Rattle.model.proofs.judge.judged.Statement.{statement}
 use Rattle.model.proofs.judge.judged.Tie as tie
@@ -31,7 +32,8 @@ count-requires c κs = search needs
 returns-2 : tie.Need-returns-2
 returns-2 c = let e = c .before .before in
     let s = e .before .before .args .s in
-    rw (c .count .ensures, c .before .lowest .ensures) (ap found (sym (judged-low width (has s) (lowest-member s (sym (e .before .is-empty .ensures) ∙ e .if1 .left) .0))))
+    let some = lowest-member s (sym (e .before .is-empty .ensures) ∙ e .if1 .left) .0 in
+    ap₂ (λ (l n : ℕ). found (met l n)) (c .before .lowest .ensures) (c .count .ensures) ∙ ap found (sym (judged-low width (has s) some))
 
 pub judged-spec : {M : Type 1} → statement M
 judged-spec =
