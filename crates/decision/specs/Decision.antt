@@ -92,7 +92,7 @@ module _ (F : Finite) (ok : Named F) where
   mutual
     unfolding leadsTest holdsTest
 
-    pub leads-decided : (α : PExp) (x y : NodeOf F)
+    leads-decided : (α : PExp) (x y : NodeOf F)
         → (leadsTest F α (x .0) (y .0) ≡ true) ↔ Leads (modelOf F) (namingOf F ok) α x y
     leads-decided (PExp.down a) x y = Iff·rfl
     leads-decided (PExp.jump i) x y = node-decided F (namingOf F ok i) y

@@ -57,14 +57,14 @@ ComparesAt bs table alike area known k c u b =
 -- ---- laws
 module _ (F : Finite) where
   -- a set by another description
-  pub set-as : (P Q : NodeOf F → Type 0) (s : NodeSet) → ((u : NodeOf F) → P u ↔ Q u) → IsSet F Q s → IsSet F P s
+  set-as : (P Q : NodeOf F → Type 0) (s : NodeSet) → ((u : NodeOf F) → P u ↔ Q u) → IsSet F Q s → IsSet F P s
   set-as P Q s same set u = (λ h. let r = set u .0 h in (r .0, same (u, r .0) .1 (r .1)), λ h. set u .1 (h .0, same (u, h .0) .0 (h .1)))
 
   -- a node by its number
   again : (P : NodeOf F → Type 0) (u : ℕ) (l l′ : u < F .size) → P (u, l) → P (u, l′)
   again P u l l′ h = subst P (node-same F refl) h
 
-  pub set-meet : (P Q : NodeOf F → Type 0) (s t : NodeSet) → IsSet F P s → IsSet F Q t → IsSet F (λ u. P u × Q u) (meet s t)
+  set-meet : (P Q : NodeOf F → Type 0) (s t : NodeSet) → IsSet F P s → IsSet F Q t → IsSet F (λ u. P u × Q u) (meet s t)
   set-meet P Q s t p q u = (
     λ h.
         let r = and-is-true (has s u) (has t u) (sym (has-meet s t u) ∙ h) in
@@ -74,7 +74,7 @@ module _ (F : Finite) where
     λ h. rw (has-meet s t u, p u .1 (h .0, h .1 .0), q u .1 (h .0, h .1 .1)),
   )
 
-  pub set-minus : (P : NodeOf F → Type 0) (all s : NodeSet) → IsSet F (λ u. Unit {0}) all → IsSet F P s → IsSet F (λ u. P u → ⊥) (minus all s)
+  set-minus : (P : NodeOf F → Type 0) (all s : NodeSet) → IsSet F (λ u. Unit {0}) all → IsSet F P s → IsSet F (λ u. P u → ⊥) (minus all s)
   set-minus P all s a p u = (there, back)
     where
       there : has (minus all s) u ≡ true → (l : u < F .size) × (P (u, l) → ⊥)
@@ -106,7 +106,7 @@ module _ (F : Finite) where
         differs row never true h = absurd (never (row .0 h .1))
         differs row never false h = h
 
-    pub pair-compares : (P Q : NodeOf F → Type 0) (s t : NodeSet) (c : Comparison) → IsSet F P s → IsSet F Q t
+    pair-compares : (P Q : NodeOf F → Type 0) (s t : NodeSet) (c : Comparison) → IsSet F P s → IsSet F Q t
         → Pair alike e c s t ↔ ((v : NodeOf F) × ((w : NodeOf F) × (P v × Q w × Compared (modelOf F) c e v w)))
     pair-compares P Q s t c p q = (there, back)
       where

@@ -6,11 +6,6 @@ use Rattle.evaluation.specs.Tables.{modelRows}
 use Rattle.model_tables.specs.Root.{stands, has-root}
 use Rattle.model_tables.proofs.root_nodes.Statement.{statement}
 use Rattle.model_tables.proofs.root_nodes.Tie as tie
-use Rattle.model_tables.proofs.root_nodes.Reads as reads
-use Rattle.model_tables.proofs.root_nodes.Lts as lts
-use Rattle.evaluation.proofs.root_nodes.Reads as root-nodes-reads
-use Rattle.model_tables.proofs.tabulate.Reads as tabulate-reads
-use Rattle.model_tables.proofs.tabulate_values.Reads as tabulate-values-reads
 
 slice-aggregate-tabulate : tie.Need-slice-aggregate-tabulate
 slice-aggregate-tabulate c = search needs

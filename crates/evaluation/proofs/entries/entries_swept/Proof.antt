@@ -5,8 +5,6 @@ use borrow.Author.Tests.{ne-eqb}
 use native.Mathlib.Omega.{arith}
 use Rattle.evaluation.proofs.entries.entries_swept.Statement.{statement}
 use Rattle.evaluation.proofs.entries.entries_swept.Tie as tie
-use Rattle.evaluation.proofs.entries.entries_swept.Reads as reads
-use Rattle.evaluation.proofs.entries.entries_swept.Lts as lts
 
 returns : tie.Need-returns
 returns c = rw (c .if1 .taken)

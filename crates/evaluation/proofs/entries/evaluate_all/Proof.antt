@@ -10,9 +10,6 @@ use Rattle.evaluation.specs.Evaluated.{lent-valid}
 use Rattle.evaluation.specs.Known.{Knows, knows-none, lent-again}
 use Rattle.evaluation.proofs.entries.evaluate_all.Statement.{statement}
 use Rattle.evaluation.proofs.entries.evaluate_all.Tie as tie
-use Rattle.evaluation.proofs.entries.evaluate_all.Reads as reads
-use Rattle.evaluation.proofs.entries.evaluate_all.Lts as lts
-use Rattle.evaluation.proofs.entries.evaluate_entry.Reads as evaluate-entry-reads
 
 abbrev Inv-loop : tie.InvT-loop
 Inv-loop p table alike area₀ n k₀ area k = (k ≤ n) × (n ≡ countOf p) × (length area ≡ length area₀) × Knows p table alike area k

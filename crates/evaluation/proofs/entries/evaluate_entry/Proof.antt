@@ -10,12 +10,6 @@ use Rattle.evaluation.specs.Evaluated.{entry-long, set-long}
 use Rattle.evaluation.specs.Known.{node-known, path-passed-over}
 use Rattle.evaluation.proofs.entries.evaluate_entry.Statement.{statement}
 use Rattle.evaluation.proofs.entries.evaluate_entry.Tie as tie
-use Rattle.evaluation.proofs.entries.evaluate_entry.Reads as reads
-use Rattle.evaluation.proofs.entries.evaluate_entry.Lts as lts
-use Rattle.evaluation.proofs.entries.evaluate.Reads as evaluate-reads
-use Rattle.nodeset.proofs.NodeSet.store.Reads as store-reads
-use Rattle.pattern.proofs.entry.sort_at.Reads as sort-at-reads
-use Rattle.pattern.proofs.table.Sort.is_node.Reads as is-node-reads
 
 sort-at-requires : tie.Need-sort-at-requires
 sort-at-requires c κs = let s = c .before .before .before .before in entry-long (s .pre .0) (s .args .k) (s .pre .1)

@@ -9,11 +9,6 @@ use Rattle.evaluation.specs.Evaluated.{lent-valid}
 use Rattle.evaluation.specs.Known.{root-known}
 use Rattle.evaluation.proofs.entries.root_nodes.Statement.{statement}
 use Rattle.evaluation.proofs.entries.root_nodes.Tie as tie
-use Rattle.evaluation.proofs.entries.root_nodes.Reads as reads
-use Rattle.evaluation.proofs.entries.root_nodes.Lts as lts
-use Rattle.evaluation.proofs.entries.evaluate_all.Reads as evaluate-all-reads
-use Rattle.nodeset.proofs.NodeSet.load.Reads as load-reads
-use Rattle.wire.proofs.clear.Reads as clear-reads
 
 evaluate-all-requires : tie.Need-evaluate-all-requires
 evaluate-all-requires c κs = search needs

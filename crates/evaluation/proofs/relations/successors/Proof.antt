@@ -6,10 +6,6 @@ use mathlib.Core.Path.{ap, _∙_}
 use Rattle.nodeset.specs.Stored.{setAt}
 use Rattle.evaluation.proofs.relations.successors.Statement.{statement}
 use Rattle.evaluation.proofs.relations.successors.Tie as tie
-use Rattle.evaluation.proofs.relations.successors.Reads as reads
-use Rattle.evaluation.proofs.relations.successors.Lts as lts
-use Rattle.evaluation.proofs.rows.row_of.Reads as row-of-reads
-use Rattle.nodeset.proofs.NodeSet.load.Reads as load-reads
 
 row-of-requires : tie.Need-row-of-requires
 row-of-requires c κs = search needs

@@ -13,11 +13,6 @@ use Rattle.model_file.specs.Valid.{ValidModel}
 use Rattle.model.specs.Judging.{areaNeed, judgingCheck, checkOf, checks-pass, judging-finds, judging-refuses, finding-means, root-judged}
 use Rattle.model.proofs.judge.judge.Statement.{statement}
 use Rattle.model.proofs.judge.judge.Tie as tie
-use Rattle.model.proofs.judge.judge.Reads as reads
-use Rattle.model.proofs.judge.judge.Lts as lts
-use Rattle.model.proofs.judge.check_all.Reads as check-all-reads
-use Rattle.model_tables.proofs.root_nodes.Reads as root-nodes-reads
-use Rattle.model.proofs.judge.judged.Reads as judged-reads
 
 check-all-requires : tie.Need-check-all-requires
 check-all-requires c κs = search needs

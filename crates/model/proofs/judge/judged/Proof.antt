@@ -10,11 +10,6 @@ use Rattle.decision.specs.Judged.{met, judged-empty, judged-low}
 use Rattle.nodeset.specs.Members.{lowest-member}
 use Rattle.model.proofs.judge.judged.Statement.{statement}
 use Rattle.model.proofs.judge.judged.Tie as tie
-use Rattle.model.proofs.judge.judged.Reads as reads
-use Rattle.model.proofs.judge.judged.Lts as lts
-use Rattle.nodeset.proofs.NodeSet.count.Reads as count-reads
-use Rattle.nodeset.proofs.NodeSet.is_empty.Reads as is-empty-reads
-use Rattle.nodeset.proofs.NodeSet.lowest.Reads as lowest-reads
 
 is-empty-requires : tie.Need-is-empty-requires
 is-empty-requires c κs = search needs
