@@ -1,3 +1,4 @@
+-- What evaluation is stated and proved by. No promise to a caller of the unit rests on these definitions.
 pub mod Kinds
 pub mod Tables
 pub mod Members
