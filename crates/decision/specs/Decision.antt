@@ -42,7 +42,8 @@ unfoldable mutual
       someBelow (F .size) (λ v. someBelow (F .size) (λ w.
       leadsTest F α u v && leadsTest F β u w && compared c (eqb (F .value e v) (F .value e w))))
 
--- ---- each connective of tests has the meaning of its connective of statements
+-- ---- laws
+-- each connective of tests has the meaning of its connective of statements
 both-decided : {A B : Type 0} (a b : Bool) → ((a ≡ true) ↔ A) → ((b ≡ true) ↔ B) → (a && b ≡ true) ↔ (A × B)
 both-decided a b f g = (λ h. let r = and-is-true a b h in (f .0 (r .0), g .0 (r .1)), λ h. rw (f .1 (h .0)) (g .1 (h .1)))
 
@@ -91,7 +92,7 @@ module _ (F : Finite) (ok : Named F) where
   mutual
     unfolding leadsTest holdsTest
 
-    pub leads-decided : (α : PExp) (x y : NodeOf F)
+    leads-decided : (α : PExp) (x y : NodeOf F)
         → (leadsTest F α (x .0) (y .0) ≡ true) ↔ Leads (modelOf F) (namingOf F ok) α x y
     leads-decided (PExp.down a) x y = Iff·rfl
     leads-decided (PExp.jump i) x y = node-decided F (namingOf F ok i) y

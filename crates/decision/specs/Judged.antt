@@ -35,48 +35,6 @@ judgedBy n test = judgedOn (someBelow n test) (lowestBelow n test) (countBelow n
 abbrev pub judgedOf : Finite → NExp → Judged
 judgedOf F φ = judgedBy (F .size) (holdsTest F φ)
 
--- ---- laws of the finding of a test
-pub judged-met : (n : ℕ) (test : ℕ → Bool) (k : ℕ) → k < n → test k ≡ true
-    → judgedBy n test ≡ met (lowestBelow n test) (countBelow n test)
-unfolding judgedBy
-judged-met n test k h e = rw (some-at test n k h e)
-
-pub judged-unmet : (n : ℕ) (test : ℕ → Bool) → ((k : ℕ) → k < n → test k ≡ false) → judgedBy n test ≡ unmet
-unfolding judgedBy
-judged-unmet n test none = rw (none-below test n none)
-
--- where the lowest is below n, it is met
-pub judged-low : (n : ℕ) (test : ℕ → Bool) → lowestBelow n test < n → judgedBy n test ≡ met (lowestBelow n test) (countBelow n test)
-judged-low n test l = judged-met n test (lowestBelow n test) l (lowest-holds n test l)
-
--- where none are counted, it is unmet
-pub judged-empty : (n : ℕ) (test : ℕ → Bool) → countBelow n test ≡ 0 → judgedBy n test ≡ unmet
-judged-empty n test e = judged-unmet n test (count-none n test e)
-
--- the finding of a test on the numbers below n is that of a test that agrees with it there and that no further number passes
-pub judged-same : (n m : ℕ) (s t : ℕ → Bool) → ((k : ℕ) → k < n → s k ≡ t k) → n ≤ m → ((k : ℕ) → n ≤ k → s k ≡ false)
-    → judgedBy m s ≡ judgedBy n t
-judged-same n m s t same w beyond = go (someBelow n t) refl
-  where
-    fails : someBelow n t ≡ false → (k : ℕ) (b : Bool) → ltb k n ≡ b → s k ≡ false
-    fails e k true l = same k (ltb-true k n l) ∙ none-at t n k e (ltb-true k n l)
-    fails e k false l = beyond k (ltb-false k n l)
-
-    go : (b : Bool) → someBelow n t ≡ b → judgedBy m s ≡ judgedBy n t
-    go true e =
-        let r = some-found t n e in
-        let p = same (r .0) (r .1) ∙ r .2 in
-        rw (
-          judged-met m s (r .0) (lt-of-lt-of-le (r .1) w) p,
-          judged-met n t (r .0) (r .1) (r .2),
-          lowest-wider n m s (r .0) w (r .1) p,
-          count-wider n m s w beyond,
-          lowest-same n s t same,
-          count-same n s t same,
-        )
-    go false e = judged-unmet m s (λ k h. fails e k (ltb k n) refl) ∙ sym (judged-unmet n t (λ k h. none-at t n k e h))
-
--- ---- what a finding says
 -- 01, "number of nodes": exactly c of the numbers below n have P
 pub data Exactly (P : ℕ → Type 0) : ℕ → ℕ → Type 0 where
   none : Exactly P 0 0
@@ -93,6 +51,7 @@ abbrev pub Says : (F : Finite) → Named F → NExp → Judged → Type 0
 Says F ok φ (met l c) = HoldsNode F ok φ l × ((u : ℕ) → u < l → HoldsNode F ok φ u → ⊥) × Exactly (HoldsNode F ok φ) (F .size) c
 Says F ok φ unmet = (u : ℕ) → HoldsNode F ok φ u → ⊥
 
+-- ---- laws
 fails-so : (b : Bool) → (b ≡ true → ⊥) → b ≡ false
 fails-so true h = absurd (h refl)
 fails-so false h = refl
@@ -131,6 +90,7 @@ module _ (F : Finite) (ok : Named F) (φ : NExp) where
   node-fails : (u : ℕ) → u < n → (HoldsNode F ok φ u → ⊥) → test u ≡ false
   node-fails u l f = fails-so (test u) (λ e. f (holds-node u l .0 e))
 
+  -- what is found is so
   pub finding-says : Says F ok φ (judgedOf F φ)
   unfolding judgedBy
   finding-says = go (someBelow n test) refl
@@ -146,12 +106,54 @@ module _ (F : Finite) (ok : Named F) (φ : NExp) where
       go false e = λ u h. fails-node u (none-at test n u e (h .0)) h
 
   says-finding : (j : Judged) → Says F ok φ j → judgedOf F φ ≡ j
+  unfolding judgedBy
   says-finding (met l c) s =
       let e = holds-node l (s .0 .0) .1 (s .0) in
       let first : (k : ℕ) → k < l → test k ≡ false = λ k h. node-fails k (lt-trans h (s .0 .0)) (s .1 k h) in
-      rw (judged-met n test l (s .0 .0) e, lowest-is n test l (s .0 .0) e first, exactly-count (HoldsNode F ok φ) test (s .2) holds-node)
-  says-finding unmet s = judged-unmet n test (λ k h. node-fails k h (s k))
+      rw (some-at test n l (s .0 .0) e, lowest-is n test l (s .0 .0) e first, exactly-count (HoldsNode F ok φ) test (s .2) holds-node)
+  says-finding unmet s = rw (none-below test n (λ k h. node-fails k h (s k)))
 
   -- judging finds exactly what is so
   pub judged-says : (j : Judged) → (judgedOf F φ ≡ j) ↔ Says F ok φ j
   judged-says j = (λ e. rw e at finding-says, says-finding j)
+
+-- the finding of a test is met where some number passes, unmet where none does
+judged-met : (n : ℕ) (test : ℕ → Bool) (k : ℕ) → k < n → test k ≡ true
+    → judgedBy n test ≡ met (lowestBelow n test) (countBelow n test)
+unfolding judgedBy
+judged-met n test k h e = rw (some-at test n k h e)
+
+judged-unmet : (n : ℕ) (test : ℕ → Bool) → ((k : ℕ) → k < n → test k ≡ false) → judgedBy n test ≡ unmet
+unfolding judgedBy
+judged-unmet n test fails = rw (none-below test n fails)
+
+-- where the lowest is below n, it is met
+pub judged-low : (n : ℕ) (test : ℕ → Bool) → lowestBelow n test < n → judgedBy n test ≡ met (lowestBelow n test) (countBelow n test)
+judged-low n test l = judged-met n test (lowestBelow n test) l (lowest-holds n test l)
+
+-- where none are counted, it is unmet
+pub judged-empty : (n : ℕ) (test : ℕ → Bool) → countBelow n test ≡ 0 → judgedBy n test ≡ unmet
+judged-empty n test e = judged-unmet n test (count-none n test e)
+
+-- the finding of a test on the numbers below n is that of a test that agrees with it there and that no further number passes
+pub judged-same : (n m : ℕ) (s t : ℕ → Bool) → ((k : ℕ) → k < n → s k ≡ t k) → n ≤ m → ((k : ℕ) → n ≤ k → s k ≡ false)
+    → judgedBy m s ≡ judgedBy n t
+judged-same n m s t same w beyond = go (someBelow n t) refl
+  where
+    fails : someBelow n t ≡ false → (k : ℕ) (b : Bool) → ltb k n ≡ b → s k ≡ false
+    fails e k true l = same k (ltb-true k n l) ∙ none-at t n k e (ltb-true k n l)
+    fails e k false l = beyond k (ltb-false k n l)
+
+    go : (b : Bool) → someBelow n t ≡ b → judgedBy m s ≡ judgedBy n t
+    go true e =
+        let r = some-found t n e in
+        let p = same (r .0) (r .1) ∙ r .2 in
+        rw (
+          judged-met m s (r .0) (lt-of-lt-of-le (r .1) w) p,
+          judged-met n t (r .0) (r .1) (r .2),
+          lowest-wider n m s (r .0) w (r .1) p,
+          count-wider n m s w beyond,
+          lowest-same n s t same,
+          count-same n s t same,
+        )
+    go false e = judged-unmet m s (λ k h. fails e k (ltb k n) refl) ∙ sym (judged-unmet n t (λ k h. none-at t n k e h))

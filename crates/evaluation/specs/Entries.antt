@@ -3,8 +3,10 @@
 use mathlib.Core.Path.{_≡_, _∙_, ap, subst}
 use mathlib.Core.Logic.{inl, inr, _↔_}
 use mathlib.Core.List.{List}
-use Prim.Native.Nat.{ℕ, _≤_, _<_}
+use Prim.Native.Nat.{ℕ, _+_, _≤_, _<_}
 use native.Mathlib.Nat.{lt-of-lt-of-le}
+use native.Mathlib.Omega.{arith}
+use Rattle.nodeset.specs.Stored.{tableBytes}
 use Rattle.pattern.specs.declared.table.Kind.{Kind}
 use Rattle.pattern.specs.declared.table.Sort.{Sort}
 use Rattle.pattern.specs.declared.entry.Entry.{Entry}
@@ -15,7 +17,12 @@ use Rattle.pattern.specs.File.Valid.{Valid, Within, EarlierNode, EarlierPath, w
 use Rattle.pattern.specs.Logic.Finite.{Finite, Named, NodeOf, modelOf, namingOf}
 use Rattle.pattern.specs.Meaning.Clauses.{NodeMeans, PathMeans}
 use Rattle.pattern.specs.Meaning.Agreement.{published}
-use Rattle.evaluation.specs.Standing.{Holding, Leading}
+use Rattle.evaluation.specs.Standing.{pendingBytes, Holding, Leading}
+
+-- a reference of the pattern has its place among the pending sets
+pub reference-fits : {bs : List ℕ} {n : ℕ} → Valid bs n → (r : ℕ) → EarlierPath bs n r → tableBytes (r + 1) ≤ pendingBytes
+reference-fits valid r (inl e) = omega (arith, e)
+reference-fits valid r (inr h) = omega (arith, h .0, valid .header .one-byte, valid .count-is)
 
 -- a reference to an entry before k is one of the pattern
 pub earlier-path : (bs : List ℕ) (k n r : ℕ) → k ≤ n → EarlierPath bs k r → EarlierPath bs n r

@@ -4,7 +4,7 @@ use mathlib.Core.Path.{_≡_, _∙_, ap, subst}
 use mathlib.Core.Bool.{Bool, true}
 use mathlib.Core.Logic.{_↔_}
 use mathlib.Core.List.{List}
-use Prim.Native.Nat.{ℕ, _+_, _*_, _≤_, _<_}
+use Prim.Native.Nat.{ℕ, _+_, _≤_, _<_}
 use native.Mathlib.Omega.{arith}
 use native.Mathlib.Nat.{lt-of-lt-of-le}
 use lib.ListN.{length}
@@ -17,97 +17,98 @@ use Rattle.pattern.specs.declared.table.Sort.{Sort}
 use Rattle.pattern.specs.declared.table.Kind.{Kind}
 use Rattle.pattern.specs.declared.entry.Entry.{Entry}
 use Rattle.pattern.specs.File.Types.{maxAxis, maxProperty, maxName, maxChannel}
-use Rattle.pattern.specs.File.Entries.{entryAt}
+use Rattle.pattern.specs.File.Entries.{HasEntry, entryAt}
 use Rattle.pattern.specs.File.Reading.{countOf, sortAt}
 use Rattle.pattern.specs.File.Valid.{Valid, EarlierNode, EarlierPath, valid}
 use Rattle.evaluation.specs.declared.kinds.NodeKind.{NodeKind}
-use Rattle.evaluation.specs.Kinds.{nodeKindOf, comparing, IsNodeKind, node-told}
+use Rattle.evaluation.specs.Kinds.{nodeKindOf, comparing, IsNodeKind, node-kind-is}
 use Rattle.evaluation.specs.Tables.{propertyRow, nameRow, nodesRow}
 use Rattle.evaluation.specs.Members.{Collected, collected-none, collected-next, collected-all}
 use Rattle.evaluation.specs.Standing.{slotOf, Lent, Standing, Evaluates, Ends}
 use Rattle.evaluation.specs.Entries.{refers-as, within-as}
 use Rattle.evaluation.specs.Nodes.{Before, Pair, ComparesIn, ComparesAt, compares-here, nodes-property, nodes-name, nodes-not, nodes-both, nodes-after, nodes-compare}
 
+-- node entry k, read as e, of this kind
+pub record NodeEntry (bs table alike area : List ℕ) (k : ℕ) (e : Entry) (kind : NodeKind) : Type 0 where
+  pub lent : Lent bs table alike area
+  pub within : k < countOf bs
+  pub node : sortAt bs k ≡ Sort.Node
+  pub same : e ≡ entryAt bs k
+  pub by : kind ≡ nodeKindOf (e .kind)
+
+-- the nodes of a comparison collected so far, in each model
+abbrev pub CollectedAt : (bs table alike area : List ℕ) → ℕ → ℕ → Comparison → ℕ → NodeSet → Type 0
+CollectedAt bs table alike area known k c u s = (w : Standing bs table alike area known) → Collected (ComparesIn w k c) u s
+
+-- ---- laws
 pub lent-valid : {bs table alike area : List ℕ} → Lent bs table alike area → Valid bs (countOf bs)
 lent-valid {bs} lent = valid bs (countOf bs) (lent .read)
 
 -- an entry stands within the file
-pub entry-long : {bs table alike area : List ℕ} → Lent bs table alike area → (k : ℕ) → k < countOf bs → 10 + 4 * k ≤ length bs
+pub entry-long : {bs table alike area : List ℕ} → Lent bs table alike area → (k : ℕ) → k < countOf bs → HasEntry bs k
 entry-long lent k l = omega (arith, l, lent-valid lent .header .length-is)
 
 -- and its set within the area
 pub set-long : {bs table alike area : List ℕ} → Lent bs table alike area → (k : ℕ) → k < countOf bs → tableBytes (slotOf bs k + 1) ≤ length area
 set-long lent k l = omega (arith, l, lent .area-long, lent-valid lent .header .one-byte)
 
--- node entry k, read as e, of a kind that was told
-pub record NodeEntry (bs table alike area : List ℕ) (k : ℕ) (e : Entry) (told : NodeKind) : Type 0 where
-  pub lent : Lent bs table alike area
-  pub within : k < countOf bs
-  pub node : sortAt bs k ≡ Sort.Node
-  pub same : e ≡ entryAt bs k
-  pub by : told ≡ nodeKindOf (e .kind)
-
-module _ {bs table alike area : List ℕ} {k : ℕ} {e : Entry} {told : NodeKind} (n : NodeEntry bs table alike area k e told) where
-  kind-is : (t : NodeKind) → told ≡ t → IsNodeKind t (entryAt bs k .kind)
+module _ {bs table alike area : List ℕ} {k : ℕ} {e : Entry} {kind : NodeKind} (n : NodeEntry bs table alike area k e kind) where
+  kind-is : (t : NodeKind) → kind ≡ t → IsNodeKind t (entryAt bs k .kind)
   kind-is t is =
       subst (λ (t′ : NodeKind). IsNodeKind t′ (entryAt bs k .kind)) is
-      (node-told (entryAt bs k .kind) told (n .by ∙ ap (λ (e′ : Entry). nodeKindOf (e′ .kind)) (n .same)))
+      (node-kind-is (entryAt bs k .kind) kind (n .by ∙ ap (λ (e′ : Entry). nodeKindOf (e′ .kind)) (n .same)))
 
   ok : Valid bs (countOf bs)
   ok = lent-valid (n .lent)
 
-  pub property-within : told ≡ NodeKind.Property → e .x ≤ maxProperty
+  pub property-within : kind ≡ NodeKind.Property → e .x ≤ maxProperty
   property-within is = rw (n .same) (within-as ok k (n .within) Kind.Property (kind-is NodeKind.Property is) .0)
 
-  pub name-within : told ≡ NodeKind.Name → e .x ≤ maxName
+  pub name-within : kind ≡ NodeKind.Name → e .x ≤ maxName
   name-within is = rw (n .same) (within-as ok k (n .within) Kind.Name (kind-is NodeKind.Name is) .0)
 
-  pub axis-within : told ≡ NodeKind.After → e .x ≤ maxAxis
+  pub axis-within : kind ≡ NodeKind.After → e .x ≤ maxAxis
   axis-within is = rw (n .same) (within-as ok k (n .within) Kind.After (kind-is NodeKind.After is) .0)
 
-  pub not-refers : told ≡ NodeKind.Not → EarlierNode bs k (e .x)
+  pub not-refers : kind ≡ NodeKind.Not → EarlierNode bs k (e .x)
   not-refers is = rw (n .same) (refers-as ok k (n .within) Kind.Not (kind-is NodeKind.Not is) .0)
 
-  pub both-refers : told ≡ NodeKind.Both → EarlierNode bs k (e .x) × EarlierNode bs k (e .y)
+  pub both-refers : kind ≡ NodeKind.Both → EarlierNode bs k (e .x) × EarlierNode bs k (e .y)
   both-refers is = let r = refers-as ok k (n .within) Kind.Both (kind-is NodeKind.Both is) in rw (n .same) (r .0, r .1)
 
-  pub after-refers : told ≡ NodeKind.After → EarlierNode bs k (e .y)
+  pub after-refers : kind ≡ NodeKind.After → EarlierNode bs k (e .y)
   after-refers is = rw (n .same) (refers-as ok k (n .within) Kind.After (kind-is NodeKind.After is) .1)
 
-  pub compares : (c : Comparison) → told ≡ NodeKind.Compare c → entryAt bs k .kind ≡ comparing c
+  pub compares : (c : Comparison) → kind ≡ NodeKind.Compare c → entryAt bs k .kind ≡ comparing c
   compares c is = kind-is (NodeKind.Compare c) is
 
   module _ (known : ℕ) where
-    pub evaluates-property : told ≡ NodeKind.Property → Evaluates bs table alike area known k (setAt table (propertyRow (e .x)))
+    pub evaluates-property : kind ≡ NodeKind.Property → Evaluates bs table alike area known k (setAt table (propertyRow (e .x)))
     evaluates-property is =
         rw (n .same) (λ w. nodes-property (w .model) (w .named) ok k (n .within) table (w .tabled) (kind-is NodeKind.Property is))
 
-    pub evaluates-name : told ≡ NodeKind.Name → Evaluates bs table alike area known k (setAt table (nameRow (e .x)))
+    pub evaluates-name : kind ≡ NodeKind.Name → Evaluates bs table alike area known k (setAt table (nameRow (e .x)))
     evaluates-name is = rw (n .same) (λ w. nodes-name (w .model) (w .named) ok k (n .within) table (w .tabled) (kind-is NodeKind.Name is))
 
-    pub evaluates-not : (s : NodeSet) → told ≡ NodeKind.Not → Evaluates bs table alike area known (e .x) s
+    pub evaluates-not : (s : NodeSet) → kind ≡ NodeKind.Not → Evaluates bs table alike area known (e .x) s
         → Evaluates bs table alike area known k (minus (setAt table nodesRow) s)
     evaluates-not s is h w =
         nodes-not (w .model) (w .named) ok k (n .within) table (w .tabled) s (kind-is NodeKind.Not is) ((rw (n .same) at h) w)
 
-    pub evaluates-both : (s t : NodeSet) → told ≡ NodeKind.Both → Evaluates bs table alike area known (e .x) s
+    pub evaluates-both : (s t : NodeSet) → kind ≡ NodeKind.Both → Evaluates bs table alike area known (e .x) s
         → Evaluates bs table alike area known (e .y) t → Evaluates bs table alike area known k (meet s t)
     evaluates-both s t is h g w =
         nodes-both (w .model) (w .named) ok k (n .within) table (w .tabled) s t (kind-is NodeKind.Both is) ((rw (n .same) at h) w) ((rw (n .same) at g) w)
 
-    pub evaluates-after : (s r : NodeSet) → told ≡ NodeKind.After → Evaluates bs table alike area known (e .y) s
+    pub evaluates-after : (s r : NodeSet) → kind ≡ NodeKind.After → Evaluates bs table alike area known (e .y) s
         → HasExactly (Before table (e .x) s) r → Evaluates bs table alike area known k r
     evaluates-after s r is h before w =
         nodes-after (w .model) (w .named) ok k (n .within) table (w .tabled) s r (kind-is NodeKind.After is) ((rw (n .same) at h) w) (rw (n .same) at before)
 
-    pub evaluates-none : (s : NodeSet) → told ≡ NodeKind.NoNode → Evaluates bs table alike area known k s
+    pub evaluates-none : (s : NodeSet) → kind ≡ NodeKind.NoNode → Evaluates bs table alike area known k s
     evaluates-none s is w = absurd (kind-is NodeKind.NoNode is (n .node))
 
--- ---- a comparison
--- the nodes collected so far, in each model
-abbrev pub CollectedAt : (bs table alike area : List ℕ) → ℕ → ℕ → Comparison → ℕ → NodeSet → Type 0
-CollectedAt bs table alike area known k c u s = (w : Standing bs table alike area known) → Collected (ComparesIn w k c) u s
-
+-- a comparison
 module _ {bs table alike area : List ℕ} (lent : Lent bs table alike area) (k : ℕ) (l : k < countOf bs) (c : Comparison)
     (kind : entryAt bs k .kind ≡ comparing c) where
   fields : (d : Comparison) → entryAt bs k .kind ≡ comparing d

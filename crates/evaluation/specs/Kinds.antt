@@ -41,7 +41,7 @@ abbrev pub comparing : Comparison → Kind
 comparing Comparison.Same = Kind.Same
 comparing Comparison.Differ = Kind.Differ
 
--- ---- what each says of the kind itself
+-- what each says of the kind itself
 abbrev pub IsNodeKind : NodeKind → Kind → Type 0
 IsNodeKind NodeKind.Property κ = κ ≡ Kind.Property
 IsNodeKind NodeKind.Name κ = κ ≡ Kind.Name
@@ -58,6 +58,7 @@ IsPathKind PathKind.Test κ = κ ≡ Kind.Test
 IsPathKind PathKind.Fork κ = κ ≡ Kind.Fork
 IsPathKind PathKind.NoPath κ = sortOf κ ≡ Sort.Path → ⊥
 
+-- ---- laws
 is-node-kind : (κ : Kind) → IsNodeKind (nodeKindOf κ) κ
 is-node-kind Kind.Property = refl
 is-node-kind Kind.Name = refl
@@ -86,8 +87,8 @@ is-path-kind Kind.Test = refl
 is-path-kind Kind.Fork = refl
 is-path-kind Kind.Unknown = neither-no-path
 
-pub node-told : (κ : Kind) (told : NodeKind) → told ≡ nodeKindOf κ → IsNodeKind told κ
-node-told κ told e = subst (λ (t : NodeKind). IsNodeKind t κ) (sym e) (is-node-kind κ)
+pub node-kind-is : (κ : Kind) (kind : NodeKind) → kind ≡ nodeKindOf κ → IsNodeKind kind κ
+node-kind-is κ kind e = subst (λ (t : NodeKind). IsNodeKind t κ) (sym e) (is-node-kind κ)
 
-pub path-told : (κ : Kind) (told : PathKind) → told ≡ pathKindOf κ → IsPathKind told κ
-path-told κ told e = subst (λ (t : PathKind). IsPathKind t κ) (sym e) (is-path-kind κ)
+pub path-kind-is : (κ : Kind) (kind : PathKind) → kind ≡ pathKindOf κ → IsPathKind kind κ
+path-kind-is κ kind e = subst (λ (t : PathKind). IsPathKind t κ) (sym e) (is-path-kind κ)

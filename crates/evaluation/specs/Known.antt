@@ -1,6 +1,6 @@
--- Evaluating every node entry in the order of the entries: the bound of the sets that are known rises by one, and no other set changes.
+-- Evaluating every node entry in the order of the entries: the bound of the sets that are known rises by one.
 -- Assumes nothing.
-use mathlib.Core.Path.{_≡_, refl, sym, _∙_, subst}
+use mathlib.Core.Path.{_≡_, refl, sym, subst}
 use mathlib.Core.Bool.{Bool, true, false}
 use mathlib.Core.Logic.{_↔_}
 use mathlib.Core.List.{List}
@@ -14,32 +14,27 @@ use Rattle.nodeset.specs.declared.NodeSet.{NodeSet}
 use Rattle.nodeset.specs.Set.{has}
 use Rattle.nodeset.specs.Stored.{tableBytes, setAt, put, put-same, put-other}
 use Rattle.pattern.specs.declared.table.Sort.{Sort}
-use Rattle.pattern.specs.File.Reading.{sortAt}
+use Rattle.pattern.specs.File.Reading.{countOf, sortAt}
 use Rattle.pattern.specs.Logic.Finite.{Finite, Named}
 use Rattle.evaluation.specs.Tables.{IsSet, Tabled, Alike}
-use Rattle.evaluation.specs.Standing.{Lent, slotOf, Holding, Known, Evaluates}
+use Rattle.evaluation.specs.Standing.{Lent, Standing, slotOf, Holding, Known, Evaluates}
+use Rattle.evaluation.specs.Evaluated.{lent-valid}
 
 -- the area holds the set of every node entry below the bound, in each model that the tables stand for
 abbrev pub Knows : (bs table alike area : List ℕ) → ℕ → Type 0
 Knows bs table alike area known = (F : Finite) (ok : Named F) → Tabled F table → Alike F alike → Known F ok bs area known
 
--- the sets of the node entries below n may have changed, and no other
-abbrev pub OthersKept : List ℕ → ℕ → List ℕ → List ℕ → Type 0
-OthersKept bs n before after =
-    (i : ℕ) → ((k : ℕ) → k < n → sortAt bs k ≡ Sort.Node → i ≡ slotOf bs k → ⊥) → setAt after i ≡ setAt before i
-
 -- entry k is evaluated where all entries before it are
-pub record Learns (bs table alike : List ℕ) (k : ℕ) (before after : List ℕ) : Type 0 where
-  pub knows-more : Knows bs table alike before k → Knows bs table alike after (k + 1)
-  pub others-kept : OthersKept bs (k + 1) before after
+abbrev pub KnowsOneMore : (bs table alike : List ℕ) → ℕ → (before after : List ℕ) → Type 0
+KnowsOneMore bs table alike k before after = Knows bs table alike before k → Knows bs table alike after (k + 1)
 
-pub learns-node : (bs table alike area : List ℕ) (k : ℕ) (s : NodeSet) → tableBytes (k + 1) ≤ length area → sortAt bs k ≡ Sort.Node
-    → Evaluates bs table alike area k k s → Learns bs table alike k area (put area k s)
-learns-node bs table alike area k s long node set =
-    record {
-      knows-more = λ known F ok tabled values j l n. which F ok j (known F ok tabled values) n (set (record { model = F; named = ok; tabled = tabled; alike-is = values; known-is = known F ok tabled values })) (eqb j k) refl l;
-      others-kept = λ i never. put-other area k i s (λ e. never k (omega arith) node e);
-    }
+-- ---- laws
+pub node-known : (bs table alike area : List ℕ) (k : ℕ) (s : NodeSet) → tableBytes (k + 1) ≤ length area → sortAt bs k ≡ Sort.Node
+    → Evaluates bs table alike area k k s → KnowsOneMore bs table alike k area (put area k s)
+node-known bs table alike area k s long node set known F ok tabled values j l n =
+    let w : Standing bs table alike area k
+    = record { model = F; named = ok; tabled = tabled; alike-is = values; known-is = known F ok tabled values } in
+    which F ok j (known F ok tabled values) n (set w) (eqb j k) refl l
   where
     which : (F : Finite) (ok : Named F) (j : ℕ) → Known F ok bs area k → sortAt bs j ≡ Sort.Node → IsSet F (Holding F ok bs k) s → (b : Bool)
         → eqb j k ≡ b → j < k + 1 → IsSet F (Holding F ok bs j) (setAt (put area k s) j)
@@ -52,23 +47,23 @@ learns-node bs table alike area k s long node set =
         let below : j < k = omega arith in
         subst (λ (t : NodeSet). IsSet F (Holding F ok bs j) t) (sym (put-other area k j s other)) (known j below n) u
 
-pub learns-path : (bs table alike area : List ℕ) (k : ℕ) → (sortAt bs k ≡ Sort.Node → ⊥) → Learns bs table alike k area area
-learns-path bs table alike area k path =
-    record {
-      knows-more = λ known F ok tabled values j l n. which j n (known F ok tabled values j) (eqb j k) refl l;
-      others-kept = λ i never. refl;
-    }
+pub path-passed-over : (bs table alike area : List ℕ) (k : ℕ) → (sortAt bs k ≡ Sort.Node → ⊥) → KnowsOneMore bs table alike k area area
+path-passed-over bs table alike area k path known F ok tabled values j l n = which j n (known F ok tabled values j) (eqb j k) refl l
   where
     which : (j : ℕ) → sortAt bs j ≡ Sort.Node → {A : Type 0} → (j < k → sortAt bs j ≡ Sort.Node → A) → (b : Bool) → eqb j k ≡ b → j < k + 1 → A
     which j n known true e l = absurd (path (subst (λ (m : ℕ). sortAt bs m ≡ Sort.Node) (eqb-true j k e) n))
     which j n known false e l = let other = eqb-false j k e in known (omega arith) n
 
--- ---- the loop over the entries
+-- the loop over the entries
 pub knows-none : (bs table alike area : List ℕ) → Knows bs table alike area 0
 knows-none bs table alike area F ok tabled values j l n = absurd (not-suc-le-zero l)
 
-pub kept-more : (bs : List ℕ) (k : ℕ) (x y z : List ℕ) → OthersKept bs k x y → OthersKept bs (k + 1) y z → OthersKept bs (k + 1) x z
-kept-more bs k x y z a b i never = b i never ∙ a i (λ j l n e. never j (omega arith) n e)
+-- the root is the last entry, and its set is known
+pub root-known : {bs table alike area : List ℕ} → Lent bs table alike area → (after : List ℕ) → Knows bs table alike after (countOf bs)
+    → Evaluates bs table alike area 0 (countOf bs - 1) (setAt after (slotOf bs (countOf bs - 1)))
+root-known {bs} lent after knows w =
+    let ok = lent-valid lent in
+    knows (w .model) (w .named) (w .tabled) (w .alike-is) (countOf bs - 1) (omega (arith, ok .header .some-entry)) (ok .root-node)
 
 -- what is lent, with an area of the same length
 pub lent-again : {bs table alike area : List ℕ} → Lent bs table alike area → (area′ : List ℕ) → length area′ ≡ length area

@@ -1,3 +1,4 @@
+-- What evaluation is stated and proved by. No promise to a caller of the unit rests on these definitions.
 pub mod Kinds
 pub mod Tables
 pub mod Members
@@ -6,5 +7,5 @@ pub mod Entries
 pub mod Sweep
 pub mod Nodes
 pub mod Evaluated
-pub mod Passed
+pub mod SweepEntry
 pub mod Known

@@ -14,6 +14,25 @@ use Rattle.nodeset.specs.declared.NodeSet.{NodeSet}
 use Rattle.nodeset.specs.Set.{width, has, lowestOf, isEmpty, emptySet, insert, insertIf, union, meet, minus, butLowest, has-empty, has-insert, has-union, has-meet, has-minus, has-but-lowest}
 use Rattle.nodeset.specs.Members.{HasExactly, still-there, lowest-gone, empty-none, lowest-member, member-some}
 
+-- the union of the rows of a set's members
+abbrev pub Image : (ℕ → NodeSet) → NodeSet → ℕ → Type 0
+Image row s v = (u : ℕ) × ((has s u ≡ true) × (has (row u) v ≡ true))
+
+-- the rows of the members that are no longer in the rest are gathered
+pub record Gathered (row : ℕ → NodeSet) (s rest sum : NodeSet) : Type 0 where
+  pub part : (u : ℕ) → has rest u ≡ true → has s u ≡ true
+  pub sum-is : (v : ℕ) → (has sum v ≡ true) ↔ ((u : ℕ) × ((has s u ≡ true) × (has rest u ≡ false) × (has (row u) v ≡ true)))
+
+-- a search among a set's members: those that are no longer in the rest don't have P
+pub record Searched (P : ℕ → Type 0) (s rest : NodeSet) : Type 0 where
+  pub part : (u : ℕ) → has rest u ≡ true → has s u ≡ true
+  pub none : (u : ℕ) → has s u ≡ true → has rest u ≡ false → P u → ⊥
+
+-- going through the nodes in rising order, and collecting those that have P
+abbrev pub Collected : (ℕ → Type 0) → ℕ → NodeSet → Type 0
+Collected P n s = HasExactly (λ u. (u < n) × P u) s
+
+-- ---- laws
 still-gone : (s : NodeSet) (u : ℕ) → has s u ≡ false → has (butLowest s) u ≡ false
 still-gone s u h = rw (has-but-lowest s u, h)
 
@@ -26,15 +45,7 @@ gone-which s u g = go (has s u) (eqb u (lowestOf s)) refl refl
     go true true p q = inr (eqb-true u (lowestOf s) q)
     go true false p q = let there : has (butLowest s) u ≡ true = rw (has-but-lowest s u, p, q) in absurd (false≢true (sym g ∙ there))
 
--- ---- the union of the rows of a set's members
-abbrev pub Image : (ℕ → NodeSet) → NodeSet → ℕ → Type 0
-Image row s v = (u : ℕ) × ((has s u ≡ true) × (has (row u) v ≡ true))
-
--- the rows of the members that are no longer in the rest are gathered
-pub record Gathered (row : ℕ → NodeSet) (s rest sum : NodeSet) : Type 0 where
-  pub part : (u : ℕ) → has rest u ≡ true → has s u ≡ true
-  pub sum-is : (v : ℕ) → (has sum v ≡ true) ↔ ((u : ℕ) × ((has s u ≡ true) × (has rest u ≡ false) × (has (row u) v ≡ true)))
-
+-- the union of the rows of a set's members
 module _ (row : ℕ → NodeSet) (s : NodeSet) where
   pub gathered-none : Gathered row s s emptySet
   gathered-none =
@@ -68,11 +79,7 @@ module _ (row : ℕ → NodeSet) (s : NodeSet) where
   gathered-all rest sum h g v =
       (λ m. let r = g .sum-is v .0 m in (r .0, (r .1 .0, r .1 .2)), λ r. g .sum-is v .1 (r .0, (r .1 .0, empty-none rest h (r .0), r .1 .1)))
 
--- ---- a search among a set's members: those that are no longer in the rest don't have P
-pub record Searched (P : ℕ → Type 0) (s rest : NodeSet) : Type 0 where
-  pub part : (u : ℕ) → has rest u ≡ true → has s u ≡ true
-  pub none : (u : ℕ) → has s u ≡ true → has rest u ≡ false → P u → ⊥
-
+-- a search
 module _ (P : ℕ → Type 0) (s : NodeSet) where
   pub searched-none : Searched P s s
   searched-none = record { part = λ u h. h; none = λ u m g p. false≢true (sym g ∙ m) }
@@ -91,7 +98,7 @@ module _ (P : ℕ → Type 0) (s : NodeSet) where
   pub searched-found : (rest : NodeSet) → isEmpty rest ≡ false → Searched P s rest → has s (lowestOf rest) ≡ true
   searched-found rest h g = g .part (lowestOf rest) (lowest-member rest h .1)
 
--- ---- two sets have a common member; the first has one that the second lacks
+-- two sets have a common member; the first has one that the second lacks
 pub meets : (s t : NodeSet) → (not (isEmpty (meet s t)) ≡ true) ↔ ((u : ℕ) × ((has s u ≡ true) × (has t u ≡ true)))
 meets s t = (there, back)
   where
@@ -116,10 +123,7 @@ exceeds s t = (there, back)
     back : (u : ℕ) × ((has s u ≡ true) × (has t u ≡ false)) → not (isEmpty (minus s t)) ≡ true
     back h = rw (member-some (minus s t) (h .0) (rw (has-minus s t (h .0), h .1 .0, h .1 .1)))
 
--- ---- going through the nodes in rising order, and collecting those that have P
-abbrev pub Collected : (ℕ → Type 0) → ℕ → NodeSet → Type 0
-Collected P n s = HasExactly (λ u. (u < n) × P u) s
-
+-- collecting
 module _ (P : ℕ → Type 0) where
   pub collected-none : Collected P 0 emptySet
   collected-none u = (λ h. absurd (false≢true (sym (has-empty u) ∙ h)), λ h. absurd (not-suc-le-zero (h .0)))

@@ -23,7 +23,6 @@ use Rattle.evaluation.specs.Standing.{Holding, Leading, Standing, Ends}
 use Rattle.evaluation.specs.Entries.{within-as, node-clause}
 use Rattle.evaluation.specs.Kinds.{comparing}
 
--- ---- what the functions on sets answer
 -- the nodes that have a successor in the set
 abbrev pub Before : List ℕ → ℕ → NodeSet → ℕ → Type 0
 Before table a s u =
@@ -41,16 +40,31 @@ Partner c row t = (w : ℕ) × ((has t w ≡ true) × Matches c (has row w))
 abbrev pub Pair : List ℕ → ℕ → Comparison → NodeSet → NodeSet → Type 0
 Pair alike e c s t = (v : ℕ) × ((has s v ≡ true) × Partner c (setAt alike (alikeRow e v)) t)
 
+-- the nodes from which some end of each path compare so
+abbrev pub Comparing : (F : Finite) → Named F → List ℕ → Comparison → ℕ → ℕ → ℕ → NodeOf F → Type 0
+Comparing F ok bs c e α β u =
+    (v : NodeOf F) × ((w : NodeOf F) × (Leading F ok bs α u v × Leading F ok bs β u w × Compared (modelOf F) c e v w))
+
+-- a number that is a node and compares so, in a model that the tables stand for
+abbrev pub ComparesIn : {bs table alike area : List ℕ} {known : ℕ} → Standing bs table alike area known → ℕ → Comparison → ℕ → Type 0
+ComparesIn {bs} w k c u =
+    (l : u < w .model .size) × Comparing (w .model) (w .named) bs c (entryAt bs k .x) (entryAt bs k .y) (entryAt bs k .z) (u, l)
+
+abbrev pub ComparesAt : (bs table alike area : List ℕ) → ℕ → ℕ → Comparison → ℕ → Bool → Type 0
+ComparesAt bs table alike area known k c u b =
+    (w : Standing bs table alike area known) → (b ≡ true) ↔ ComparesIn w k c u
+
+-- ---- laws
 module _ (F : Finite) where
   -- a set by another description
-  pub set-as : (P Q : NodeOf F → Type 0) (s : NodeSet) → ((u : NodeOf F) → P u ↔ Q u) → IsSet F Q s → IsSet F P s
+  set-as : (P Q : NodeOf F → Type 0) (s : NodeSet) → ((u : NodeOf F) → P u ↔ Q u) → IsSet F Q s → IsSet F P s
   set-as P Q s same set u = (λ h. let r = set u .0 h in (r .0, same (u, r .0) .1 (r .1)), λ h. set u .1 (h .0, same (u, h .0) .0 (h .1)))
 
   -- a node by its number
   again : (P : NodeOf F → Type 0) (u : ℕ) (l l′ : u < F .size) → P (u, l) → P (u, l′)
   again P u l l′ h = subst P (node-same F refl) h
 
-  pub set-meet : (P Q : NodeOf F → Type 0) (s t : NodeSet) → IsSet F P s → IsSet F Q t → IsSet F (λ u. P u × Q u) (meet s t)
+  set-meet : (P Q : NodeOf F → Type 0) (s t : NodeSet) → IsSet F P s → IsSet F Q t → IsSet F (λ u. P u × Q u) (meet s t)
   set-meet P Q s t p q u = (
     λ h.
         let r = and-is-true (has s u) (has t u) (sym (has-meet s t u) ∙ h) in
@@ -60,7 +74,7 @@ module _ (F : Finite) where
     λ h. rw (has-meet s t u, p u .1 (h .0, h .1 .0), q u .1 (h .0, h .1 .1)),
   )
 
-  pub set-minus : (P : NodeOf F → Type 0) (all s : NodeSet) → IsSet F (λ u. Unit {0}) all → IsSet F P s → IsSet F (λ u. P u → ⊥) (minus all s)
+  set-minus : (P : NodeOf F → Type 0) (all s : NodeSet) → IsSet F (λ u. Unit {0}) all → IsSet F P s → IsSet F (λ u. P u → ⊥) (minus all s)
   set-minus P all s a p u = (there, back)
     where
       there : has (minus all s) u ≡ true → (l : u < F .size) × (P (u, l) → ⊥)
@@ -92,7 +106,7 @@ module _ (F : Finite) where
         differs row never true h = absurd (never (row .0 h .1))
         differs row never false h = h
 
-    pub pair-compares : (P Q : NodeOf F → Type 0) (s t : NodeSet) (c : Comparison) → IsSet F P s → IsSet F Q t
+    pair-compares : (P Q : NodeOf F → Type 0) (s t : NodeSet) (c : Comparison) → IsSet F P s → IsSet F Q t
         → Pair alike e c s t ↔ ((v : NodeOf F) × ((w : NodeOf F) × (P v × Q w × Compared (modelOf F) c e v w)))
     pair-compares P Q s t c p q = (there, back)
       where
@@ -155,11 +169,6 @@ module _ (F : Finite) (ok : Named F) {bs : List ℕ} {n : ℕ} (valid : Valid bs
           let c = clause (u, m) .0 held in
           (tabled .nodes u .1 (m, tt), (c .0 .0, (row m (c .0 .0) .1 (c .0 .1, c .1 .0), set (c .0 .0) .1 (c .0 .1, c .1 .1))))
 
--- the nodes from which some end of each path compare so
-abbrev pub Comparing : (F : Finite) → Named F → List ℕ → Comparison → ℕ → ℕ → ℕ → NodeOf F → Type 0
-Comparing F ok bs c e α β u =
-    (v : NodeOf F) × ((w : NodeOf F) × (Leading F ok bs α u v × Leading F ok bs β u w × Compared (modelOf F) c e v w))
-
 module _ (F : Finite) (ok : Named F) {bs : List ℕ} {n : ℕ} (valid : Valid bs n) (k : ℕ) (l : k < n) where
   -- "Same (differ) holds at u if some end of α and some end of β from u have equal (unequal) values on the channel."
   compare-clause : (c : Comparison) → entryAt bs k .kind ≡ comparing c → (u : NodeOf F)
@@ -172,16 +181,7 @@ module _ (F : Finite) (ok : Named F) {bs : List ℕ} {n : ℕ} (valid : Valid bs
   nodes-compare s c kind set =
       set-as F (Holding F ok bs k) (Comparing F ok bs c (entryAt bs k .x) (entryAt bs k .y) (entryAt bs k .z)) s (λ u. compare-clause c kind u) set
 
--- ---- a comparison at one node, in each model that the tables stand for
--- a number that is a node and compares so
-abbrev pub ComparesIn : {bs table alike area : List ℕ} {known : ℕ} → Standing bs table alike area known → ℕ → Comparison → ℕ → Type 0
-ComparesIn {bs} w k c u =
-    (l : u < w .model .size) × Comparing (w .model) (w .named) bs c (entryAt bs k .x) (entryAt bs k .y) (entryAt bs k .z) (u, l)
-
-abbrev pub ComparesAt : (bs table alike area : List ℕ) → ℕ → ℕ → Comparison → ℕ → Bool → Type 0
-ComparesAt bs table alike area known k c u b =
-    (w : Standing bs table alike area known) → (b ≡ true) ↔ ComparesIn w k c u
-
+-- a comparison at one node
 module _ (bs table alike area : List ℕ) (known k : ℕ) (c : Comparison) (u : ℕ) where
   -- a number that is no node
   pub compares-nowhere : has (setAt table nodesRow) u ≡ false → ComparesAt bs table alike area known k c u false

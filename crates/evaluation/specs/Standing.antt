@@ -2,12 +2,14 @@
 -- Assumes nothing.
 use mathlib.Core.Path.{_≡_}
 use mathlib.Core.List.{List}
-use Prim.Native.Nat.{ℕ, _≤_, _<_}
+use Prim.Native.Nat.{ℕ, _+_, _≤_, _<_}
 use lib.ListN.{length}
 use Rattle.nodeset.specs.declared.NodeSet.{NodeSet}
 use Rattle.nodeset.specs.Stored.{tableBytes, setAt}
 use Rattle.pattern.specs.declared.table.Sort.{Sort}
 use Rattle.pattern.specs.Checks.Finding.{found}
+use Rattle.pattern.specs.File.Table.{endOfPath}
+use Rattle.pattern.specs.File.Entries.{maxEntries}
 use Rattle.pattern.specs.File.Reading.{countOf, sortAt, readingOf}
 use Rattle.pattern.specs.Logic.Finite.{Finite, Named, NodeOf, modelOf, namingOf}
 use Rattle.pattern.specs.Meaning.Agreement.{HoldsAt, LeadsAt}
@@ -18,7 +20,11 @@ abbrev pub slotOf : List ℕ → ℕ → ℕ
 slotOf bs k = k
 
 abbrev pub areaBytes : List ℕ → ℕ
-areaBytes bs = tableBytes 255
+areaBytes bs = tableBytes maxEntries
+
+-- the bytes of a sweep: a pending set for each reference, the end of path the last
+abbrev pub pendingBytes : ℕ
+pendingBytes = tableBytes (endOfPath + 1)
 
 -- a pattern that was read, and tables and an area that are long enough
 pub record Lent (bs table alike area : List ℕ) : Type 0 where

@@ -19,7 +19,7 @@ IsSet F P s = HasExactly (λ u. (l : u < F .size) × P (u, l)) s
 abbrev pub rowOf : ℕ → ℕ → ℕ
 rowOf group u = width * group + u
 
--- ---- where each set stands in the table of a model: the successors of a node on an axis, the nodes with a property, the node of a name,
+-- where each set stands in the table of a model: the successors of a node on an axis, the nodes with a property, the node of a name,
 -- and all nodes
 abbrev pub successorsRow : ℕ → ℕ → ℕ
 successorsRow a u = rowOf a u
@@ -44,7 +44,7 @@ pub record Tabled (F : Finite) (table : List ℕ) : Type 0 where
   pub names : (i : ℕ) → i ≤ maxName → IsSet F (λ u. F .named i ≡ u .0) (setAt table (nameRow i))
   pub nodes : IsSet F (λ u. Unit {0}) (setAt table nodesRow)
 
--- ---- the table of a model's values: the nodes whose value on a channel is that of a node
+-- the table of a model's values: the nodes whose value on a channel is that of a node
 abbrev pub alikeRow : ℕ → ℕ → ℕ
 alikeRow e u = rowOf e u
 

@@ -3,7 +3,7 @@
 // reference.
 //
 // The area holds the set of each node entry below the bound `known`; below it a set is loaded, at or
-// above it computed. `root_nodes` raises the bound entry by entry, so each is computed once.
+// above it computed. `evaluate_all` raises the bound entry by entry, so each is computed once.
 use crate::kinds::NodeKind;
 use crate::kinds::PathKind;
 use crate::kinds::node_kind;
@@ -19,20 +19,22 @@ use pattern::entry::Entry;
 use pattern::entry::sort_at;
 use pattern::table::END;
 use pattern::types::Comparison;
+use wire::clear;
 ghost use mathlib.Core.Path.{_≡_};
 ghost use Prim.Native.Nat.{_+_, _-_, _≤_, _<_};
-ghost use lib.ListN.{length};
+ghost use lib.ListN.{length, replicate};
 ghost use Rattle.nodeset.specs.Set.{width};
-ghost use Rattle.nodeset.specs.Stored.{tableBytes, setAt};
+ghost use Rattle.nodeset.specs.Stored.{tableBytes};
 ghost use Rattle.pattern.specs.declared.table.Sort.{Sort};
 ghost use Rattle.pattern.specs.File.Entries.{entryAt};
 ghost use Rattle.pattern.specs.File.Reading.{countOf, sortAt};
 ghost use Rattle.pattern.specs.File.Valid.{EarlierPath};
-ghost use Rattle.evaluation.specs.Standing.{Lent, Standing, slotOf, Evaluates, Ends};
-ghost use Rattle.evaluation.specs.Sweep.{addTo, topOf, pendingBytes, Passing};
+ghost use Rattle.evaluation.specs.Standing.{pendingBytes, Lent, Standing, Evaluates, Ends};
+ghost use Rattle.evaluation.specs.Sweep.{addTo, entriesSwept};
+ghost use Rattle.evaluation.specs.SweepEntry.{EntrySwept};
 ghost use Rattle.evaluation.specs.Kinds.{comparing};
 ghost use Rattle.evaluation.specs.Nodes.{ComparesAt};
-ghost use Rattle.evaluation.specs.Known.{Knows, OthersKept, Learns};
+ghost use Rattle.evaluation.specs.Known.{Knows, KnowsOneMore};
 
 // The bytes of the pending sets of a sweep: one for each reference, the end of path the last.
 const PENDING_BYTES: usize = NodeSet::BYTES * (ENDS + 1);
@@ -50,8 +52,8 @@ fn evaluate(p: &[u8], table: &[u8], alike: &[u8], area: &[u8], known: u8, k: u8)
     }
     let e = Entry::at(p, k);
     let kind = e.kind;
-    let told = node_kind(kind);
-    match told {
+    let node = node_kind(kind);
+    match node {
         NodeKind::Property => with_property(table, e.x),
         NodeKind::Name => with_name(table, e.x),
         NodeKind::Not => all_nodes(table).minus(evaluate(p, table, alike, area, known, e.x)),
@@ -116,8 +118,8 @@ fn compares_at(
 
 // How many entries a sweep from a path reference goes through: the entry itself and those below it,
 // none from the end of path.
-fn top(first: u8) -> u8
-    ensures { λ r. ⌜ r ≡ topOf first ⌝ }
+fn entries_swept(first: u8) -> u8
+    ensures { λ r. ⌜ r ≡ entriesSwept first ⌝ }
 {
     if first == END {
         return 0;
@@ -143,10 +145,10 @@ fn ends(
 {
     let mut pending = [0u8; PENDING_BYTES];
     NodeSet::only(from).store(&mut pending, first as usize);
-    let mut j = top(first);
+    let mut j = entries_swept(first);
     while 0 < j {
         j -= 1;
-        pass(p, table, alike, area, known, j, &mut pending);
+        sweep_entry(p, table, alike, area, known, j, &mut pending);
     }
     NodeSet::load(&pending, ENDS)
 }
@@ -161,11 +163,19 @@ fn add(pending: &mut [u8], r: u8, s: NodeSet)
 }
 
 // Entry i of a sweep: what is pending there moves on to the rest of its path.
-fn pass(p: &[u8], table: &[u8], alike: &[u8], area: &[u8], known: u8, i: u8, pending: &mut [u8])
+fn sweep_entry(
+    p: &[u8],
+    table: &[u8],
+    alike: &[u8],
+    area: &[u8],
+    known: u8,
+    i: u8,
+    pending: &mut [u8],
+)
     requires { ⌜ Lent (now p) (now table) (now alike) (now area) ⌝ }
     requires { ⌜ i < countOf (now p) ⌝ }
     requires { ⌜ pendingBytes ≤ length (now pending) ⌝ }
-    ensures { λ _. ⌜ Passing (now (p .entry)) (now (table .entry)) (now (alike .entry)) (now (area .entry)) known i (now (pending .entry)) (now (pending .exit)) ⌝ }
+    ensures { λ _. ⌜ EntrySwept (now (p .entry)) (now (table .entry)) (now (alike .entry)) (now (area .entry)) known i (now (pending .entry)) (now (pending .exit)) ⌝ }
 {
     let s = NodeSet::load(pending, i as usize);
     if s.is_empty() {
@@ -173,8 +183,8 @@ fn pass(p: &[u8], table: &[u8], alike: &[u8], area: &[u8], known: u8, i: u8, pen
     }
     let e = Entry::at(p, i);
     let kind = e.kind;
-    let told = path_kind(kind);
-    match told {
+    let path = path_kind(kind);
+    match path {
         PathKind::Step => add(pending, e.y, image(table, e.x, s)),
         PathKind::Jump => add(pending, e.y, with_name(table, e.x)),
         PathKind::Test => add(
@@ -191,10 +201,10 @@ fn pass(p: &[u8], table: &[u8], alike: &[u8], area: &[u8], known: u8, i: u8, pen
 }
 
 // Evaluates entry k, if it is a node, where the sets of all node entries before it are in the area.
-fn learn(p: &[u8], table: &[u8], alike: &[u8], area: &mut [u8], k: u8)
+fn evaluate_entry(p: &[u8], table: &[u8], alike: &[u8], area: &mut [u8], k: u8)
     requires { ⌜ Lent (now p) (now table) (now alike) (now area) ⌝ }
     requires { ⌜ k < countOf (now p) ⌝ }
-    ensures { λ _. ⌜ Learns (now (p .entry)) (now (table .entry)) (now (alike .entry)) k (now (area .entry)) (now (area .exit)) ⌝ }
+    ensures { λ _. ⌜ KnowsOneMore (now (p .entry)) (now (table .entry)) (now (alike .entry)) k (now (area .entry)) (now (area .exit)) ⌝ }
 {
     if !sort_at(p, k).is_node() {
         return;
@@ -202,21 +212,30 @@ fn learn(p: &[u8], table: &[u8], alike: &[u8], area: &mut [u8], k: u8)
     evaluate(p, table, alike, area, k, k).store(area, k as usize);
 }
 
-// The set of the nodes at which the root of a pattern that was read holds, in the data model that the
-// tables stand for. The area is left with the sets of all node entries.
-pub fn root_nodes(p: &[u8], table: &[u8], alike: &[u8], area: &mut [u8]) -> NodeSet
+// Evaluates every node entry in the order of the entries. The area is left with their sets.
+fn evaluate_all(p: &[u8], table: &[u8], alike: &[u8], area: &mut [u8])
     requires { ⌜ Lent (now p) (now table) (now alike) (now area) ⌝ }
-    requires { ⌜ Standing (now p) (now table) (now alike) (now area) 0 ⌝ }
-    ensures root { λ r. ⌜ r ≡ setAt (now (area .exit)) (slotOf (now (p .entry)) (countOf (now (p .entry)) - 1)) ⌝ }
-    ensures sets { λ _. ⌜ Knows (now (p .entry)) (now (table .entry)) (now (alike .entry)) (now (area .exit)) (countOf (now (p .entry))) ⌝ }
-    ensures others { λ _. ⌜ OthersKept (now (p .entry)) (countOf (now (p .entry))) (now (area .entry)) (now (area .exit)) ⌝ }
+    ensures { λ _. ⌜ Knows (now (p .entry)) (now (table .entry)) (now (alike .entry)) (now (area .exit)) (countOf (now (p .entry))) ⌝ }
 {
     let n = p[5];
     let mut k = 0;
     while k < n {
-        learn(p, table, alike, area, k);
+        evaluate_entry(p, table, alike, area, k);
         k += 1;
     }
-    let root = n - 1;
-    NodeSet::load(area, root as usize)
+}
+
+// The set of the nodes at which the root of a pattern that was read holds, in the data model that the
+// tables stand for. The area is left zero.
+pub fn root_nodes(p: &[u8], table: &[u8], alike: &[u8], area: &mut [u8]) -> NodeSet
+    requires { ⌜ Lent (now p) (now table) (now alike) (now area) ⌝ }
+    requires { ⌜ Standing (now p) (now table) (now alike) (now area) 0 ⌝ }
+    ensures root { λ r. ⌜ Evaluates (now (p .entry)) (now (table .entry)) (now (alike .entry)) (now (area .entry)) 0 (countOf (now (p .entry)) - 1) r ⌝ }
+    ensures area { λ _. ⌜ now (area .exit) ≡ replicate (length (now (area .entry))) 0 ⌝ }
+{
+    evaluate_all(p, table, alike, area);
+    let root = p[5] - 1;
+    let s = NodeSet::load(area, root as usize);
+    clear(area);
+    s
 }

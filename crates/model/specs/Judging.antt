@@ -1,13 +1,11 @@
 -- Judging a model, 01's "Findings": the refusals in its order, the finding, what becomes of the working area, and what a finding says.
 -- Assumes nothing.
-use mathlib.Core.Path.{_≡_, refl, sym, _∙_, ap, subst}
-use mathlib.Core.Bool.{Bool, true, false}
-use mathlib.Core.Logic.{_↔_, Iff·symm, Iff·trans}
-use native.Mathlib.Omega.{arith}
+use mathlib.Core.Path.{_≡_, sym, _∙_, ap, subst}
+use mathlib.Core.Logic.{_↔_}
 use mathlib.Core.List.{List}
-use Prim.Native.Nat.{ℕ, _-_, _≤_, _<_}
+use Prim.Native.Nat.{ℕ, _≤_}
 use lib.Dec.{ltb}
-use borrow.Author.Tests.{le-ltb, ltb-false}
+use borrow.Author.Tests.{lt-ltb, le-ltb, ltb-false}
 use Rattle.wire.specs.Cleared.{cleared}
 use Rattle.pattern.specs.Checks.Finding.{Finding, found, refused, Check, passes, refuses, refusesIf, _then_, unless, then-passes, refusesIf-passes, found-passes}
 use Rattle.pattern.specs.File.Reading.{countOf, patternCheck}
@@ -16,14 +14,14 @@ use Rattle.pattern.specs.Meaning.Expression.{rootOf}
 use Rattle.nodeset.specs.declared.NodeSet.{NodeSet}
 use Rattle.nodeset.specs.Set.{width, has}
 use Rattle.decision.specs.Decision.{holdsTest}
-use Rattle.evaluation.specs.Tables.{IsSet}
-use Rattle.evaluation.specs.Standing.{Holding}
-use Rattle.decision.specs.Judged.{Judged, met, unmet, judgedBy, judgedOf, Says, judged-says, judged-same, holds-node}
+use Rattle.decision.specs.Judged.{Judged, met, unmet, judgedBy, judgedOf, Says, judged-says, judged-same}
 use Rattle.pattern.specs.File.Reading as reading
 use Rattle.model_file.specs.Checks as file
+use Rattle.model_file.specs.Layout.{nodeCount}
 use Rattle.model_file.specs.Contents.{modelFrom}
 use Rattle.model_file.specs.Checks.{modelCheck}
 use Rattle.model_file.specs.Valid.{ValidModel, model-valid, model-accepted, all-named}
+use Rattle.model_tables.specs.Root.{rootHolds}
 use Rattle.model.specs.declared.judge.JudgeRefusal.{JudgeRefusal}
 use Rattle.model.specs.declared.judge.JudgeCheck.{JudgeCheck}
 use Rattle.model.specs.declared.judge.ModelFinding.{ModelFinding}
@@ -57,6 +55,27 @@ pub record Judgement (bs ds : List ℕ) (size : ℕ) (j : Judged) : Type 0 where
   pub model-valid : ValidModel ds
   pub says : Says (modelFrom ds) (all-named model-valid) (rootOf bs) j
 
+-- the code's answers, by 01's numbers and values
+abbrev pub refusalNumber : JudgeRefusal → ℕ
+refusalNumber (JudgeRefusal.Pattern refusal) = reading.numberOf refusal
+refusalNumber JudgeRefusal.Area = 9
+refusalNumber (JudgeRefusal.Model refusal) = file.numberOf refusal
+
+abbrev pub refusalPlace : JudgeRefusal → ℕ
+refusalPlace (JudgeRefusal.Pattern refusal) = reading.placeOf refusal
+refusalPlace JudgeRefusal.Area = 0
+refusalPlace (JudgeRefusal.Model refusal) = file.placeOf refusal
+
+abbrev pub checkOf : JudgeCheck → Check
+checkOf JudgeCheck.Passed = passes
+checkOf (JudgeCheck.Refused refusal) = refuses (refusalNumber refusal) (refusalPlace refusal)
+
+abbrev pub findingOf : ModelFinding → Finding Judged
+findingOf (ModelFinding.Met lowest number) = found (met lowest number)
+findingOf ModelFinding.Unmet = found unmet
+findingOf (ModelFinding.Refused refusal) = refused (refusalNumber refusal) (refusalPlace refusal)
+
+-- ---- laws
 -- the checks pass exactly where nothing is to be refused
 pub checks-pass : (bs ds : List ℕ) (size : ℕ)
     → (judgingCheck bs ds size ≡ passes) ↔ (Valid bs (countOf bs) × (areaNeed bs ≤ size) × ValidModel ds)
@@ -93,44 +112,13 @@ judging-says bs ds size j = (apart, together)
         rw (checks-pass bs ds size .1 (h .pattern-valid, h .area-long, h .model-valid))
         (ap found (judged-says (modelFrom ds) (all-named (h .model-valid)) (rootOf bs) j .1 (h .says)))
 
--- ---- the code's answers, by 01's numbers and values
-abbrev pub refusalNumber : JudgeRefusal → ℕ
-refusalNumber (JudgeRefusal.Pattern refusal) = reading.numberOf refusal
-refusalNumber JudgeRefusal.Area = 9
-refusalNumber (JudgeRefusal.Model refusal) = file.numberOf refusal
-
-abbrev pub refusalPlace : JudgeRefusal → ℕ
-refusalPlace (JudgeRefusal.Pattern refusal) = reading.placeOf refusal
-refusalPlace JudgeRefusal.Area = 0
-refusalPlace (JudgeRefusal.Model refusal) = file.placeOf refusal
-
-abbrev pub checkOf : JudgeCheck → Check
-checkOf JudgeCheck.Passed = passes
-checkOf (JudgeCheck.Refused refusal) = refuses (refusalNumber refusal) (refusalPlace refusal)
-
-abbrev pub findingOf : ModelFinding → Finding Judged
-findingOf (ModelFinding.Met lowest number) = found (met lowest number)
-findingOf ModelFinding.Unmet = found unmet
-findingOf (ModelFinding.Refused refusal) = refused (refusalNumber refusal) (refusalPlace refusal)
-
--- ---- from the set of the root to the finding
-same-tests : (a b : Bool) → (a ≡ true) ↔ (b ≡ true) → a ≡ b
-same-tests true b h = sym (h .0 refl)
-same-tests false true h = h .1 refl
-same-tests false false h = refl
-
--- a set that has exactly the nodes where the root holds is judged as the definition says
-pub root-judged : (bs : List ℕ) {ds : List ℕ} (ok : ValidModel ds) (s : NodeSet)
-    → IsSet (modelFrom ds) (Holding (modelFrom ds) (all-named ok) bs (countOf bs - 1)) s → judgedBy width (has s) ≡ judgedOf (modelFrom ds) (rootOf bs)
-root-judged bs {ds} ok s set =
-    judged-same (modelFrom ds .size) width (has s) (holdsTest (modelFrom ds) (rootOf bs)) agree (ok .header .narrow) (λ k l. beyond k l (has s k) refl)
-  where
-    agree : (k : ℕ) → k < modelFrom ds .size → has s k ≡ holdsTest (modelFrom ds) (rootOf bs) k
-    agree k l = same-tests _ _ (Iff·trans (set k) (Iff·symm (holds-node (modelFrom ds) (all-named ok) (rootOf bs) k l)))
-
-    beyond : (k : ℕ) → modelFrom ds .size ≤ k → (b : Bool) → has s k ≡ b → has s k ≡ false
-    beyond k l true e = absurd (let r = set k .0 e in omega (arith, r .0))
-    beyond k l false e = e
+-- a set that has the nodes where the root holds, and no other number, is judged as the definition says
+pub root-judged : (bs : List ℕ) {ds : List ℕ} (ok : ValidModel ds) (s : NodeSet) → ((u : ℕ) → has s u ≡ rootHolds bs ds u)
+    → judgedBy width (has s) ≡ judgedOf (modelFrom ds) (rootOf bs)
+unfolding rootHolds
+root-judged bs {ds} ok s same =
+    judged-same (nodeCount ds) width (has s) (holdsTest (modelFrom ds) (rootOf bs)) (λ k l. same k ∙ rw (lt-ltb k (nodeCount ds) l)) (ok .header .narrow)
+    (λ k l. same k ∙ rw (le-ltb k (nodeCount ds) l))
 
 -- what is found where the checks pass, and where they don't
 pub judging-finds : (bs ds : List ℕ) (size : ℕ) → judgingCheck bs ds size ≡ passes

@@ -1,29 +1,20 @@
 // Judging a model: document 01's refusals in its order, and then met, with the lowest node and the
 // number of nodes, or unmet.
-use evaluation::rows::ALIKE_BYTES;
-use evaluation::rows::TABLE_BYTES;
 use model_file::ModelCheck;
 use model_file::ModelRefusal;
 use model_file::check;
-use model_tables::tabulate;
-use model_tables::tabulate_values;
+use model_tables::root_nodes;
 use nodeset::NodeSet;
 use pattern::finding::PatternRead;
 use pattern::finding::PatternRefusal;
 use pattern_read::read;
-use wire::clear;
 ghost use mathlib.Core.Path.{_≡_};
 ghost use mathlib.Core.Logic.{_↔_};
-ghost use Prim.Native.Nat.{_≤_};
-ghost use lib.ListN.{length, replicate};
+ghost use lib.ListN.{length};
 ghost use Rattle.nodeset.specs.Set.{width, has};
 ghost use Rattle.pattern.specs.Checks.Finding.{found};
-ghost use Rattle.pattern.specs.File.Reading.{countOf, readingOf};
-ghost use Rattle.pattern.specs.Meaning.Expression.{rootOf};
-ghost use Rattle.decision.specs.Judged.{Judged, judgedBy, judgedOf};
-ghost use Rattle.model_file.specs.Contents.{modelFrom};
-ghost use Rattle.model_file.specs.Valid.{ValidModel};
-ghost use Rattle.model.specs.Judging.{areaNeed, judgingCheck, judgingOf, areaAfter, Judgement, refusalNumber, refusalPlace, checkOf, findingOf};
+ghost use Rattle.decision.specs.Judged.{Judged, judgedBy};
+ghost use Rattle.model.specs.Judging.{judgingCheck, judgingOf, areaAfter, Judgement, refusalNumber, refusalPlace, checkOf, findingOf};
 
 // Document 01's refusals of judging a model: 1 to 8 of the pattern, 9 of the working area, 10 to 14
 // of the model file.
@@ -89,23 +80,6 @@ fn check_all(p: &[u8], d: &[u8], size: usize) -> JudgeCheck
     JudgeCheck::Passed
 }
 
-// The set of the nodes of the model at which the root holds. The work slice is left zero.
-fn evaluate(p: &[u8], d: &[u8], work: &mut [u8]) -> NodeSet
-    requires { ⌜ readingOf (now p) ≡ found (countOf (now p)) ⌝ }
-    requires { ⌜ ValidModel (now d) ⌝ }
-    requires { ⌜ areaNeed (now p) ≤ length (now work) ⌝ }
-    ensures set { λ r. ⌜ judgedBy width (has r) ≡ judgedOf (modelFrom (now (d .entry))) (rootOf (now (p .entry))) ⌝ }
-    ensures work { λ _. ⌜ now (work .exit) ≡ replicate (length (now (work .entry))) 0 ⌝ }
-{
-    let mut table = [0u8; TABLE_BYTES];
-    let mut alike = [0u8; ALIKE_BYTES];
-    tabulate(d, &mut table);
-    tabulate_values(d, &mut alike);
-    let s = evaluation::root_nodes(p, &table, &alike, work);
-    clear(work);
-    s
-}
-
 // The finding of the set of the nodes at which the root holds.
 fn judged(s: NodeSet) -> ModelFinding
     ensures { λ r. ⌜ findingOf r ≡ found (judgedBy width (has s)) ⌝ }
@@ -128,5 +102,5 @@ pub fn judge(p: &[u8], d: &[u8], area: &mut [u8]) -> ModelFinding
     if let JudgeCheck::Refused(refusal) = check_all(p, d, area.len()) {
         return ModelFinding::Refused(refusal);
     }
-    judged(evaluate(p, d, &mut area[..AREA]))
+    judged(root_nodes(p, d, &mut area[..AREA]))
 }

@@ -3,7 +3,7 @@
 use mathlib.Core.List.{List, [], _∷_}
 use Prim.Native.Nat.{ℕ, _+_, _*_}
 use lib.ListN.{getD}
-use Rattle.wire.specs.Fields.{wordAt}
+use Rattle.wire.specs.Fields.{wordAt, word32At}
 use Rattle.nodeset.specs.Set.{width}
 
 -- 01: "Mark `DAT`"
@@ -31,8 +31,8 @@ edgeCount ds = wordAt ds 7
 abbrev pub maxEdges : ℕ
 maxEdges = 4096
 
--- ---- "Then n records of 12 bytes (32-bit little-endian property set, bit p for property p; four 16-bit values, channels 0 to 3 in
--- order), m of 2 (name, node), k of 3 (from, axis, to)."
+-- "Then n records of 12 bytes (32-bit little-endian property set, bit p for property p; four 16-bit values, channels 0 to 3 in
+-- order), m of 2 (name, node), k of 3 (from, axis, to).":
 -- where the record of node u begins, behind the header
 abbrev pub nodeRecord : ℕ → ℕ
 nodeRecord u = 9 + 12 * u
@@ -51,9 +51,7 @@ lengthOf ds = edgeRecord ds (edgeCount ds)
 
 -- "32-bit little-endian property set" of node u
 abbrev pub propertySet : List ℕ → ℕ → ℕ
-propertySet ds u =
-    getD ds (nodeRecord u) 0 + getD ds (nodeRecord u + 1) 0 * 256 + getD ds (nodeRecord u + 2) 0 * 65536
-    + getD ds (nodeRecord u + 3) 0 * 16777216
+propertySet ds u = word32At ds (nodeRecord u)
 
 -- "four 16-bit values, channels 0 to 3 in order": the value of node u on channel e
 abbrev pub valueOn : List ℕ → ℕ → ℕ → ℕ

@@ -48,7 +48,8 @@ pub record ValidModel (ds : List ℕ) : Type 0 where
   pub names : (j : ℕ) → j < nameCount ds → ValidName ds j
   pub edges : (i : ℕ) → i < edgeCount ds → ValidEdge ds i
 
--- ---- each check, and what it says
+-- ---- laws
+-- each check, and what it says
 pub header-passes : (ds : List ℕ) → headerCheck ds ≡ passes → Header ds
 unfolding headerCheck
 header-passes ds h =
@@ -157,7 +158,7 @@ model-accepted ds h =
       each-below (edgeCheck ds) (edgeCount ds) (λ i l. edge-accepted ds i (h .edges i l)),
     )
 
--- ---- the model of a valid file
+-- the model of a valid file
 module _ {ds : List ℕ} (ok : ValidModel ds) where
   -- "a node for every name"
   pub all-named : Named (modelFrom ds)

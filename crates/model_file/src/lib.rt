@@ -1,17 +1,30 @@
-// The model file: where its counts and its records stand, and its checks, document 01's refusals 10 to
-// 14, in its order. Each check answers that it passed or the refusal, and the first refusal decides.
+// The model file: the fields of its records, and its checks, document 01's refusals 10 to 14, in its
+// order. Each check answers that it passed or the refusal, and the first refusal decides.
+mod records;
+
 use nodeset::NodeSet;
 use pattern::types::Axis;
 use pattern::types::AxisMade;
 use pattern::types::Name;
 use pattern::types::NameMade;
+pub use records::edge_axis;
+pub use records::edge_count;
+pub use records::edge_from;
+use records::edge_record;
+pub use records::edge_to;
+pub use records::has_property;
+pub use records::name_count;
+pub use records::name_of;
+pub use records::node_count;
+pub use records::node_of_record;
+pub use records::value_on;
 ghost use mathlib.Core.Path.{_≡_};
-ghost use Prim.Native.Nat.{_+_, _≤_, _<_};
-ghost use lib.ListN.{length, getD};
-ghost use lib.Dec.{leb, eqb};
+ghost use Prim.Native.Nat.{_+_, _≤_};
+ghost use lib.ListN.{length};
+ghost use lib.Dec.{leb};
 ghost use Rattle.pattern.specs.File.Types.{maxName, maxAxis};
 ghost use Rattle.pattern.specs.Checks.Range.{eachBelow};
-ghost use Rattle.model_file.specs.Layout.{nodeCount, nameCount, edgeCount, nodeRecord, nameRecord, edgeRecord, lengthOf, nameOf};
+ghost use Rattle.model_file.specs.Layout.{nameCount, edgeCount, nameRecord, edgeRecord, lengthOf};
 ghost use Rattle.model_file.specs.Checks.{countsWrong, headerCheck, repeatsName, nameCheck, edgeCheck, modelCheck, numberOf, placeOf, checkOf};
 
 // Document 01's bounds of the three counts.
@@ -61,61 +74,6 @@ impl ModelRefusal {
 pub enum ModelCheck {
     Passed,
     Refused(ModelRefusal),
-}
-
-// The byte at place i, wide enough to calculate a place with.
-pub fn byte(d: &[u8], i: usize) -> usize
-    requires { ⌜ i < length (now d) ⌝ }
-    ensures { λ r. ⌜ (r ≡ getD (now (d .entry)) i 0) × (r < 256) ⌝ }
-{
-    d[i] as usize
-}
-
-// The count of the nodes.
-pub fn node_count(d: &[u8]) -> u8
-    requires { ⌜ 9 ≤ length (now d) ⌝ }
-    ensures { λ r. ⌜ r ≡ nodeCount (now (d .entry)) ⌝ }
-{
-    d[5]
-}
-
-// The count of the name records.
-pub fn name_count(d: &[u8]) -> u8
-    requires { ⌜ 9 ≤ length (now d) ⌝ }
-    ensures { λ r. ⌜ r ≡ nameCount (now (d .entry)) ⌝ }
-{
-    d[6]
-}
-
-// The count of the edge records.
-pub fn edge_count(d: &[u8]) -> u16
-    requires { ⌜ 9 ≤ length (now d) ⌝ }
-    ensures { λ r. ⌜ r ≡ edgeCount (now (d .entry)) ⌝ }
-{
-    wire::word(d, 7)
-}
-
-// Where the record of node u begins.
-pub fn node_record(u: u8) -> usize
-    ensures { λ r. ⌜ r ≡ nodeRecord u ⌝ }
-{
-    9 + 12 * (u as usize)
-}
-
-// Where name record j begins.
-pub fn name_record(d: &[u8], j: u8) -> usize
-    requires { ⌜ 9 ≤ length (now d) ⌝ }
-    ensures { λ r. ⌜ r ≡ nameRecord (now (d .entry)) j ⌝ }
-{
-    node_record(node_count(d)) + 2 * (j as usize)
-}
-
-// Where edge record i begins.
-pub fn edge_record(d: &[u8], i: u16) -> usize
-    requires { ⌜ 9 ≤ length (now d) ⌝ }
-    ensures { λ r. ⌜ r ≡ edgeRecord (now (d .entry)) i ⌝ }
-{
-    name_record(d, name_count(d)) + 3 * (i as usize)
 }
 
 fn is_name(v: u8) -> bool
@@ -178,25 +136,14 @@ fn check_header(d: &[u8]) -> ModelCheck
     ModelCheck::Passed
 }
 
-// Whether name records i and j have the same name.
-fn same_name(d: &[u8], i: u8, j: u8) -> bool
-    requires { ⌜ nameRecord (now d) i < length (now d) ⌝ }
-    requires { ⌜ nameRecord (now d) j < length (now d) ⌝ }
-    ensures { λ r. ⌜ r ≡ eqb (nameOf (now (d .entry)) i) (nameOf (now (d .entry)) j) ⌝ }
-{
-    let a = name_record(d, i);
-    let b = name_record(d, j);
-    d[a] == d[b]
-}
-
 // Whether an earlier record has the name of record j.
 fn repeats_name(d: &[u8], j: u8) -> bool
-    requires { ⌜ nameRecord (now d) j < length (now d) ⌝ }
+    requires { ⌜ nameRecord (now d) j + 2 ≤ length (now d) ⌝ }
     ensures { λ r. ⌜ r ≡ repeatsName (now (d .entry)) j ⌝ }
 {
     let mut i = 0;
     while i < j {
-        if same_name(d, i, j) {
+        if name_of(d, i) == name_of(d, j) {
             return true;
         }
         i += 1;
@@ -209,11 +156,10 @@ fn check_name(d: &[u8], j: u8) -> ModelCheck
     requires { ⌜ nameRecord (now d) j + 2 ≤ length (now d) ⌝ }
     ensures { λ r. ⌜ checkOf r ≡ nameCheck (now (d .entry)) j ⌝ }
 {
-    let at = name_record(d, j);
-    if !is_name(d[at]) {
+    if !is_name(name_of(d, j)) {
         return ModelCheck::Refused(ModelRefusal::Name(j));
     }
-    if node_count(d) <= d[at + 1] {
+    if node_count(d) <= node_of_record(d, j) {
         return ModelCheck::Refused(ModelRefusal::Name(j));
     }
     if repeats_name(d, j) {
@@ -243,15 +189,14 @@ fn check_edge(d: &[u8], i: u16) -> ModelCheck
     requires { ⌜ edgeRecord (now d) i + 3 ≤ length (now d) ⌝ }
     ensures { λ r. ⌜ checkOf r ≡ edgeCheck (now (d .entry)) i ⌝ }
 {
-    let at = edge_record(d, i);
     let n = node_count(d);
-    if n <= d[at] {
+    if n <= edge_from(d, i) {
         return ModelCheck::Refused(ModelRefusal::Edge(i));
     }
-    if !is_axis(d[at + 1]) {
+    if !is_axis(edge_axis(d, i)) {
         return ModelCheck::Refused(ModelRefusal::Edge(i));
     }
-    if n <= d[at + 2] {
+    if n <= edge_to(d, i) {
         return ModelCheck::Refused(ModelRefusal::Edge(i));
     }
     ModelCheck::Passed

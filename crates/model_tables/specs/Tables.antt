@@ -36,11 +36,36 @@ AlikeTo ds e u v = (v < nodeCount ds) × (valueOn ds e u ≡ valueOn ds e v)
 abbrev pub listedRow : List ℕ → ℕ → ℕ
 listedRow ds j = nameRow (nameOf ds j)
 
--- ---- rows that are set one after the other: row j has exactly the numbers with Q j, for each j below n, and the other rows stay
+-- rows that are set one after the other: row j has exactly the numbers with Q j, for each j below n, and the other rows stay
 pub record Filled (row : ℕ → ℕ) (Q : ℕ → ℕ → Type 0) (n : ℕ) (xs ys : List ℕ) : Type 0 where
   pub rows : (j : ℕ) → j < n → HasExactly (Q j) (setAt ys (row j))
   pub rest : (i : ℕ) → ((j : ℕ) → j < n → i ≡ row j → ⊥) → setAt ys i ≡ setAt xs i
 
+-- 01: "Names not listed name node 0.": the row of every name gets node 0
+abbrev pub NamesAtZero : List ℕ → List ℕ → Type 0
+NamesAtZero xs ys = Filled nameRow (λ i u. u ≡ 0) (maxName + 1) xs ys
+
+-- 01, "(name, node)": the row of each listed name gets the node of its record
+abbrev pub NamesListed : List ℕ → List ℕ → List ℕ → Type 0
+NamesListed ds xs ys = Filled (listedRow ds) (λ j u. u ≡ nodeOfRecord ds j) (nameCount ds) xs ys
+
+-- the successors: after k edge records the row of a node on an axis has the nodes to which one of them leads, and the rows behind stay
+pub record Linked (ds : List ℕ) (k : ℕ) (xs ys : List ℕ) : Type 0 where
+  pub rows : (a u : ℕ) → u < width → (v : ℕ) → has (setAt ys (successorsRow a u)) v ≡ someBelow k (recordLeads ds a u v)
+  pub rest : (i : ℕ) → propertyRow 0 ≤ i → setAt ys i ≡ setAt xs i
+
+-- the row of edge record i, and what it becomes
+abbrev pub edgeRow : List ℕ → ℕ → ℕ
+edgeRow ds i = successorsRow (axisOf ds i) (fromOf ds i)
+
+abbrev pub linkOf : List ℕ → ℕ → List ℕ → List ℕ
+linkOf ds i xs = put xs (edgeRow ds i) (insert (setAt xs (edgeRow ds i)) (toOf ds i))
+
+-- the values: the rows of the channels below e are made
+abbrev pub AlikeBelow : List ℕ → ℕ → List ℕ → Type 0
+AlikeBelow ds e ys = (c u : ℕ) → c < e → u < nodeCount ds → HasExactly (AlikeTo ds c u) (setAt ys (alikeRow c u))
+
+-- ---- laws
 -- the set that a row holds is the one that was stored there
 exactly-put : (Q : ℕ → Type 0) (xs : List ℕ) (i : ℕ) (s : NodeSet) → tableBytes (i + 1) ≤ length xs → HasExactly Q s
     → HasExactly Q (setAt (put xs i s) i)
@@ -68,26 +93,7 @@ module _ (row : ℕ → ℕ) (Q : ℕ → ℕ → Type 0) where
       other : (i : ℕ) → ((j : ℕ) → j < n + 1 → i ≡ row j → ⊥) → setAt (put ys (row n) s) i ≡ setAt xs i
       other i never = put-other ys (row n) i s (never n (omega arith)) ∙ f .rest i (λ j g. never j (omega arith))
 
--- 01: "Names not listed name node 0.": the row of every name gets node 0
-abbrev pub NamesAtZero : List ℕ → List ℕ → Type 0
-NamesAtZero xs ys = Filled nameRow (λ i u. u ≡ 0) (maxName + 1) xs ys
-
--- 01, "(name, node)": the row of each listed name gets the node of its record
-abbrev pub NamesListed : List ℕ → List ℕ → List ℕ → Type 0
-NamesListed ds xs ys = Filled (listedRow ds) (λ j u. u ≡ nodeOfRecord ds j) (nameCount ds) xs ys
-
--- ---- the successors: after k edge records the row of a node on an axis has the nodes to which one of them leads, and the rows behind stay
-pub record Linked (ds : List ℕ) (k : ℕ) (xs ys : List ℕ) : Type 0 where
-  pub rows : (a u : ℕ) → u < width → (v : ℕ) → has (setAt ys (successorsRow a u)) v ≡ someBelow k (recordLeads ds a u v)
-  pub rest : (i : ℕ) → propertyRow 0 ≤ i → setAt ys i ≡ setAt xs i
-
--- the row of edge record i, and what it becomes
-abbrev pub edgeRow : List ℕ → ℕ → ℕ
-edgeRow ds i = successorsRow (axisOf ds i) (fromOf ds i)
-
-abbrev pub linkOf : List ℕ → ℕ → List ℕ → List ℕ
-linkOf ds i xs = put xs (edgeRow ds i) (insert (setAt xs (edgeRow ds i)) (toOf ds i))
-
+-- the successors
 module _ (ds : List ℕ) where
   pub linked-none : (xs : List ℕ) → ((i u : ℕ) → has (setAt xs i) u ≡ false) → Linked ds 0 xs xs
   unfolding someBelow
@@ -157,7 +163,7 @@ module _ (ds : List ℕ) where
       other : (i : ℕ) → propertyRow 0 ≤ i → setAt (linkOf ds k ys) i ≡ setAt xs i
       other i h = put-other ys (edgeRow ds k) i grown (λ e. omega (arith, from, axis, h, e)) ∙ f .rest i h
 
--- ---- the names: every name's row has node 0, and then the row of each listed name has the node of its record
+-- the names: every name's row has node 0, and then the row of each listed name has the node of its record
 module _ {ds : List ℕ} (ok : ValidModel ds) where
   -- records of different names have different rows
   pub listed-apart : (n : ℕ) → n < nameCount ds → (j : ℕ) → j < n → listedRow ds j ≡ listedRow ds n → ⊥
@@ -216,10 +222,6 @@ module _ {ds : List ℕ} (ok : ValidModel ds) where
 
       all : (u : ℕ) → has (setAt (put t₄ nodesRow (below (nodeCount ds))) nodesRow) u ≡ ltb u (nodeCount ds)
       all u = put-same t₄ nodesRow (below (nodeCount ds)) l u ∙ has-below (nodeCount ds) u (ok .header .narrow)
-
--- ---- the values: the rows of the channels below e are made
-abbrev pub AlikeBelow : List ℕ → ℕ → List ℕ → Type 0
-AlikeBelow ds e ys = (c u : ℕ) → c < e → u < nodeCount ds → HasExactly (AlikeTo ds c u) (setAt ys (alikeRow c u))
 
 -- the rows of channel e are made next
 pub alike-more : (ds : List ℕ) (e : ℕ) (xs ys : List ℕ) → nodeCount ds ≤ width → AlikeBelow ds e xs

@@ -1,16 +1,21 @@
-// From the bytes of a model file that passed its checks to the tables of node sets that evaluation
-// reads.
+// Where a pattern holds in the data model of a model file that passed its checks: the tables of node
+// sets that evaluation reads are made on the stack.
+use evaluation::rows::ALIKE_BYTES;
 use evaluation::rows::NAMES;
 use evaluation::rows::NODES;
 use evaluation::rows::PROPERTIES;
+use evaluation::rows::TABLE_BYTES;
 use evaluation::rows::row_of;
-use model_file::byte;
+use model_file::edge_axis;
 use model_file::edge_count;
-use model_file::edge_record;
+use model_file::edge_from;
+use model_file::edge_to;
+use model_file::has_property;
 use model_file::name_count;
-use model_file::name_record;
+use model_file::name_of;
 use model_file::node_count;
-use model_file::node_record;
+use model_file::node_of_record;
+use model_file::value_on;
 use nodeset::NodeSet;
 use pattern::types::Channel;
 use pattern::types::Name;
@@ -18,29 +23,19 @@ use pattern::types::Property;
 ghost use mathlib.Core.Path.{_≡_};
 ghost use mathlib.Core.Bool.{true, false};
 ghost use Prim.Native.Nat.{ℕ, _+_, _≤_, _<_};
-ghost use lib.ListN.{length};
+ghost use lib.ListN.{length, replicate};
 ghost use Rattle.nodeset.specs.Set.{has};
 ghost use Rattle.nodeset.specs.Stored.{tableBytes, setAt};
+ghost use Rattle.pattern.specs.Checks.Finding.{found};
 ghost use Rattle.pattern.specs.File.Types.{maxProperty, maxChannel};
+ghost use Rattle.pattern.specs.File.Reading.{countOf, readingOf};
 ghost use Rattle.evaluation.specs.Tables.{propertyRow, modelRows, alikeRow, alikeRows, IsSet, Tabled, Alike};
-ghost use Rattle.model_file.specs.Layout.{nodeCount, edgeCount, nodeRecord, valueOn};
+ghost use Rattle.evaluation.specs.Standing.{areaBytes};
+ghost use Rattle.model_file.specs.Layout.{nodeCount, edgeCount, valueOn};
 ghost use Rattle.model_file.specs.Contents.{hasProperty, modelFrom};
 ghost use Rattle.model_file.specs.Valid.{ValidModel};
+ghost use Rattle.model_tables.specs.Root.{rootHolds};
 ghost use Rattle.model_tables.specs.Tables.{WithProperty, AlikeTo, linkOf, Filled, NamesAtZero, NamesListed, Linked};
-
-// Whether property p is in the property set of node u.
-fn has_property(d: &[u8], p: u8, u: u8) -> bool
-    requires { ⌜ nodeRecord u + 4 ≤ length (now d) ⌝ }
-    requires { ⌜ p ≤ maxProperty ⌝ }
-    ensures { λ r. ⌜ r ≡ hasProperty (now (d .entry)) p u ⌝ }
-{
-    let at = node_record(u);
-    let set = byte(d, at)
-        + byte(d, at + 1) * 256
-        + byte(d, at + 2) * 65536
-        + byte(d, at + 3) * 16777216;
-    (set >> p) % 2 == 1
-}
 
 // The nodes that have property p.
 fn property_set(d: &[u8], p: u8) -> NodeSet
@@ -94,9 +89,8 @@ fn list_names(d: &[u8], table: &mut [u8])
     let m = name_count(d);
     let mut j = 0;
     while j < m {
-        let at = name_record(d, j);
-        let set = NodeSet::only(d[at + 1]);
-        set.store(table, NAMES + byte(d, at));
+        let set = NodeSet::only(node_of_record(d, j));
+        set.store(table, NAMES + (name_of(d, j) as usize));
         j += 1;
     }
 }
@@ -108,11 +102,10 @@ fn add_edge(d: &[u8], table: &mut [u8], i: u16)
     requires { ⌜ i < edgeCount (now d) ⌝ }
     ensures { λ r. ⌜ now (table .exit) ≡ linkOf (now (d .entry)) i (now (table .entry)) ⌝ }
 {
-    let at = edge_record(d, i);
-    let axis = d[at + 1];
-    let row = row_of(axis, d[at]);
+    let axis = edge_axis(d, i);
+    let row = row_of(axis, edge_from(d, i));
     let set = NodeSet::load(table, row);
-    let grown = set.insert(d[at + 2]);
+    let grown = set.insert(edge_to(d, i));
     grown.store(table, row);
 }
 
@@ -129,15 +122,6 @@ fn fill_successors(d: &[u8], table: &mut [u8])
         add_edge(d, table, i);
         i += 1;
     }
-}
-
-// The value of node u on channel e.
-fn value_on(d: &[u8], e: u8, u: u8) -> u16
-    requires { ⌜ nodeRecord u + 12 ≤ length (now d) ⌝ }
-    requires { ⌜ e ≤ maxChannel ⌝ }
-    ensures { λ r. ⌜ r ≡ valueOn (now (d .entry)) e u ⌝ }
-{
-    wire::word(d, node_record(u) + 4 + 2 * (e as usize))
 }
 
 // The nodes whose value on channel e is that of node u.
@@ -174,7 +158,7 @@ fn fill_channel(d: &[u8], e: u8, alike: &mut [u8])
 }
 
 // The table of the model that a file gives; it is empty before.
-pub fn tabulate(d: &[u8], table: &mut [u8])
+fn tabulate(d: &[u8], table: &mut [u8])
     requires { ⌜ ValidModel (now d) ⌝ }
     requires { ⌜ tableBytes modelRows ≤ length (now table) ⌝ }
     requires { ⌜ ((i u : ℕ) → has (setAt (now table) i) u ≡ false) ⌝ }
@@ -189,7 +173,7 @@ pub fn tabulate(d: &[u8], table: &mut [u8])
 }
 
 // The table of the values of the model that a file gives.
-pub fn tabulate_values(d: &[u8], alike: &mut [u8])
+fn tabulate_values(d: &[u8], alike: &mut [u8])
     requires { ⌜ ValidModel (now d) ⌝ }
     requires { ⌜ tableBytes alikeRows ≤ length (now alike) ⌝ }
     ensures { λ r. ⌜ Alike (modelFrom (now (d .entry))) (now (alike .exit)) ⌝ }
@@ -199,4 +183,20 @@ pub fn tabulate_values(d: &[u8], alike: &mut [u8])
         fill_channel(d, e, alike);
         e += 1;
     }
+}
+
+// The set of the nodes of the model of a file at which the root of a pattern that was read holds. The
+// work slice is left zero.
+pub fn root_nodes(p: &[u8], d: &[u8], work: &mut [u8]) -> NodeSet
+    requires { ⌜ readingOf (now p) ≡ found (countOf (now p)) ⌝ }
+    requires { ⌜ ValidModel (now d) ⌝ }
+    requires { ⌜ areaBytes (now p) ≤ length (now work) ⌝ }
+    ensures nodes { λ r. ⌜ ((u : ℕ) → has r u ≡ rootHolds (now (p .entry)) (now (d .entry)) u) ⌝ }
+    ensures work { λ _. ⌜ now (work .exit) ≡ replicate (length (now (work .entry))) 0 ⌝ }
+{
+    let mut table = [0u8; TABLE_BYTES];
+    let mut alike = [0u8; ALIKE_BYTES];
+    tabulate(d, &mut table);
+    tabulate_values(d, &mut alike);
+    evaluation::root_nodes(p, &table, &alike, work)
 }

@@ -3,101 +3,83 @@
 -- Assumes nothing.
 use borrow.Author.Needs.{needs}
 use borrow.Author.Tests.{lt-ltb, le-ltb, not-true, not-false}
-use Prim.Native.Nat.{ℕ, _+_}
+use Prim.Native.Nat.{ℕ, _≤_, _<_}
+use native.Mathlib.Omega.{arith}
 use mathlib.Core.Path.{_≡_, sym, ap, _∙_}
 use mathlib.Core.Bool.{Bool, true, false}
-use lib.ListN.{getD}
-use lib.Dec.{leb, ltb}
+use lib.Dec.{leb}
 use Rattle.pattern.specs.File.Types.{maxAxis}
-use Rattle.model_file.specs.Layout.{nodeCount, fromOf, axisOf}
+use Rattle.model_file.specs.Layout.{nodeCount, fromOf, axisOf, toOf}
 use Rattle.model_file.specs.Checks.{edgeCheck}
 use Rattle.model_file.proofs.check_edge.Statement.{statement}
 use Rattle.model_file.proofs.check_edge.Tie as tie
 
-edge-record-requires : tie.Need-edge-record-requires
-edge-record-requires c κs = search needs
-
 node-count-requires : tie.Need-node-count-requires
 node-count-requires c κs = search needs
 
-shared-slice-read-if1 : tie.Need-shared-slice-read-if1
-shared-slice-read-if1 c = search needs
+edge-from-requires : tie.Need-edge-from-requires
+edge-from-requires c κs = search needs
+
+from-out : (c : tie.Then1) → let a = c .before .before .before .before .args in nodeCount (a .d .now) ≤ fromOf (a .d .now) (a .i)
+from-out c = omega (arith, c .if1 .taken, c .before .edge-from .ensures, c .before .before .node-count .ensures)
+
+from-within : (c : tie.Else1) → let a = c .before .before .before .before .args in fromOf (a .d .now) (a .i) < nodeCount (a .d .now)
+from-within c = omega (arith, c .if1 .left, c .before .edge-from .ensures, c .before .before .node-count .ensures)
 
 returns : tie.Need-returns
 unfolding edgeCheck
-returns c = rw (le-ltb _ _ (rw (c .before .before .before .edge-record .ensures, c .before .before .node-count .ensures) at (c .if1 .taken)))
+returns c = rw (le-ltb _ _ (from-out c))
 
-from-within : (c : tie.Else1)
-    → let a = c .before .before .before .before .before .args in
-    ltb (fromOf (a .d .now) (a .i)) (nodeCount (a .d .now)) ≡ true
-from-within c = lt-ltb _ _ (rw (c .before .before .before .edge-record .ensures, c .before .before .node-count .ensures) at (c .if1 .left))
-
-add-is-axis : tie.Need-add-is-axis
-add-is-axis c = search needs
-
-shared-slice-read-is-axis : tie.Need-shared-slice-read-is-axis
-shared-slice-read-is-axis c = search needs
+edge-axis-requires : tie.Need-edge-axis-requires
+edge-axis-requires c κs = search needs
 
 is-axis-requires : tie.Need-is-axis-requires
 is-axis-requires c κs = search needs
 
 axis-asked : (c : tie.After-is-axis) (t : Bool) → c .is-axis .result ≡ t
-    → let a = c .before .before .before .before .before .before .before .args in
+    → let a = c .before .before .before .before .before .before .args in
     leb (axisOf (a .d .now) (a .i)) maxAxis ≡ t
-axis-asked c t h =
-    let r = c .before .before .before .before .before in
-    let d = r .before .before .args .d .now in
-    ap (λ (k : ℕ). leb (getD d (k + 1) 0) maxAxis) (sym (r .edge-record .ensures)) ∙ (sym (c .is-axis .ensures) ∙ h)
+axis-asked c t h = ap (λ (n : ℕ). leb n maxAxis) (sym (c .before .edge-axis .ensures)) ∙ (sym (c .is-axis .ensures) ∙ h)
 
 returns-2 : tie.Need-returns-2
 unfolding edgeCheck
 returns-2 c =
     let s = c .before in
-    rw (from-within (s .before .before), axis-asked s false (not-true _ (c .if2 .taken)))
+    rw (lt-ltb _ _ (from-within (s .before .before)), axis-asked s false (not-true _ (c .if2 .taken)))
 
-add-if3 : tie.Need-add-if3
-add-if3 c = search needs
+edge-to-requires : tie.Need-edge-to-requires
+edge-to-requires c κs = search needs
 
-shared-slice-read-if3 : tie.Need-shared-slice-read-if3
-shared-slice-read-if3 c = search needs
+to-out : (c : tie.Then3) → let a = c .before .before .before .before .before .before .before .before .before .args in nodeCount (a .d .now) ≤ toOf (a .d .now) (a .i)
+to-out c = omega (arith, c .if3 .taken, c .before .edge-to .ensures, c .before .before .before .before .before .before .before .node-count .ensures)
+
+to-within : (c : tie.Else3) → let a = c .before .before .before .before .before .before .before .before .before .args in toOf (a .d .now) (a .i) < nodeCount (a .d .now)
+to-within c = omega (arith, c .if3 .left, c .before .edge-to .ensures, c .before .before .before .before .before .before .before .node-count .ensures)
 
 returns-3 : tie.Need-returns-3
 unfolding edgeCheck
 returns-3 c =
     let e = c .before .before in
     let s = e .before in
-    let f = s .before .before in
-    rw (
-      from-within f,
-      axis-asked s true (not-false _ (e .if2 .left)),
-      le-ltb _ _ (rw (f .before .before .before .edge-record .ensures, f .before .before .node-count .ensures) at (c .if3 .taken)),
-    )
+    rw (lt-ltb _ _ (from-within (s .before .before)), axis-asked s true (not-false _ (e .if2 .left)), le-ltb _ _ (to-out c))
 
 returns-4 : tie.Need-returns-4
 unfolding edgeCheck
 returns-4 c =
     let e = c .before .before in
     let s = e .before in
-    let f = s .before .before in
-    rw (
-      from-within f,
-      axis-asked s true (not-false _ (e .if2 .left)),
-      lt-ltb _ _ (rw (f .before .before .before .edge-record .ensures, f .before .before .node-count .ensures) at (c .if3 .left)),
-    )
+    rw (lt-ltb _ _ (from-within (s .before .before)), axis-asked s true (not-false _ (e .if2 .left)), lt-ltb _ _ (to-within c))
 
 pub check-edge-spec : {M : Type 1} → statement M
 check-edge-spec =
     tie.close
     (tie.spec
-    edge-record-requires
     node-count-requires
-    shared-slice-read-if1
+    edge-from-requires
     returns
-    add-is-axis
-    shared-slice-read-is-axis
+    edge-axis-requires
     is-axis-requires
     returns-2
-    add-if3
-    shared-slice-read-if3
+    edge-to-requires
     returns-3
     returns-4)

@@ -3,10 +3,12 @@
 -- Assumes nothing.
 use borrow.Author.Needs.{needs}
 use borrow.Author.Tests.{lt-ltb, le-ltb, eq-eqb, ne-eqb}
-use mathlib.Core.Path.{_≡_, sym, _∙_}
-use mathlib.Core.Bool.{false}
+use Prim.Native.Nat.{ℕ}
+use mathlib.Core.Path.{_≡_, sym, ap, _∙_}
+use mathlib.Core.Bool.{false, not}
+use lib.ListN.{length}
 use lib.Dec.{ltb, eqb}
-use Rattle.model_file.specs.Layout.{nodeCount, maxNodes, nameCount, maxNames, edgeCount, maxEdges}
+use Rattle.model_file.specs.Layout.{nodeCount, maxNodes, nameCount, maxNames, edgeCount, maxEdges, edgeRecord, lengthOf}
 use Rattle.model_file.proofs.counts_wrong.Statement.{statement}
 use Rattle.model_file.proofs.counts_wrong.Tie as tie
 
@@ -55,19 +57,21 @@ few-edges c = le-ltb _ _ (rw (c .before .before .before .before .edge-count .ens
 edge-record-requires : tie.Need-edge-record-requires
 edge-record-requires c κs = search needs
 
+-- what the last test asks: the length against the one that the counts ask for
+length-asked : (c : tie.After-edge-record)
+    → let ds = c .before .before .before .before .before .before .before .before .before .args .d .now in
+    not (eqb (length ds) (c .edge-record .result)) ≡ not (eqb (length ds) (lengthOf ds))
+length-asked c =
+    let ds = c .before .before .before .before .before .before .before .before .before .args .d .now in
+    let end = c .edge-record .ensures ∙ ap (λ (k : ℕ). edgeRecord ds k) (c .before .before .before .before .before .edge-count .ensures) in
+    ap (λ (k : ℕ). not (eqb (length ds) k)) end
+
 returns-5 : tie.Need-returns-5
 returns-5 c =
     let e = c .before in
     let m = e .before in
     let n = m .before in
-    rw (
-      some-node (n .before),
-      few-nodes n,
-      few-names m,
-      few-edges e,
-      c .edge-record .ensures,
-      n .before .before .edge-count .ensures,
-    )
+    length-asked c ∙ rw (some-node (n .before), few-nodes n, few-names m, few-edges e)
 
 pub counts-wrong-spec : {M : Type 1} → statement M
 counts-wrong-spec =

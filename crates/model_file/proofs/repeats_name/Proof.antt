@@ -2,6 +2,7 @@
 -- Assumes nothing.
 use borrow.Author.Needs.{needs}
 use borrow.Author.Count.{below-none, below-more}
+use borrow.Author.Tests.{eq-eqb, ne-eqb}
 use Prim.Native.Nat.{ℕ, _-_, _≤_, _<_}
 use mathlib.Core.Path.{_≡_, sym, _∙_}
 use mathlib.Core.Bool.{false}
@@ -21,11 +22,17 @@ abbrev μ-loop : tie.MeasureT-loop
 loop-holds : tie.Need-loop-holds Inv-loop μ-loop
 loop-holds c = (search needs, below-none _)
 
-same-name-requires : tie.Need-same-name-requires Inv-loop μ-loop
-same-name-requires c κs = search needs
+name-of-requires : tie.Need-name-of-requires Inv-loop μ-loop
+name-of-requires c κs = search needs
+
+name-of-requires-2 : tie.Need-name-of-requires-2 Inv-loop μ-loop
+name-of-requires-2 c κs = search needs
 
 returns : tie.Need-returns Inv-loop μ-loop
-returns c = sym (some-at _ _ _ (c .before .before .loop-test .taken) (sym (c .before .same-name .ensures) ∙ c .if1 .taken))
+returns c =
+    let n = c .before in
+    let same = sym (n .before .name-of .ensures) ∙ c .if1 .taken ∙ n .name-of2 .ensures in
+    sym (some-at _ _ _ (n .before .before .loop-test .taken) (eq-eqb _ _ same))
 
 add-i : tie.Need-add-i Inv-loop μ-loop
 add-i c = search needs
@@ -34,7 +41,10 @@ loop-less : tie.Need-loop-less Inv-loop μ-loop
 loop-less c = search needs
 
 loop-again : tie.Need-loop-again Inv-loop μ-loop
-loop-again c = (search needs, below-more _ _ (c .before .before .before .loop .inv .1) (sym (c .before .same-name .ensures) ∙ c .if1 .left))
+loop-again c =
+    let n = c .before in
+    let l = n .before .before .before in
+    (search needs, below-more _ _ (l .loop .inv .1) (ne-eqb _ _ (λ e. c .if1 .left (n .before .name-of .ensures ∙ e ∙ sym (n .name-of2 .ensures)))))
 
 returns-2 : tie.Need-returns-2 Inv-loop μ-loop
 returns-2 c = sym (none-below _ _ (λ k h. c .before .loop .inv .1 k (omega arith)))
@@ -46,7 +56,8 @@ repeats-name-spec =
     Inv-loop
     μ-loop
     loop-holds
-    same-name-requires
+    name-of-requires
+    name-of-requires-2
     returns
     add-i
     loop-less

@@ -24,38 +24,36 @@ loop-holds c =
     let d = c .before .before .before .args .d .now in
     (search needs, search needs, filled-none (listedRow d) (λ j u. u ≡ nodeOfRecord d j) _)
 
-name-record-requires : tie.Need-name-record-requires Inv-loop μ-loop
-name-record-requires c κs = search needs
+node-of-record-requires : tie.Need-node-of-record-requires Inv-loop μ-loop
+node-of-record-requires c κs = search needs
 
 -- the record of a turn is one of those that the count gives
-counted : (c : tie.After-name-record Inv-loop μ-loop)
+counted : (c : tie.After-node-of-record Inv-loop μ-loop)
     → c .before .before .loop .j < nameCount (c .before .before .before .before .before .before .args .d .now)
 counted c = rw (c .before .before .before .name-count .ensures) at (c .before .loop-test .taken)
 
-add-only : tie.Need-add-only Inv-loop μ-loop
-add-only c = search needs
-
-shared-slice-read-only : tie.Need-shared-slice-read-only Inv-loop μ-loop
-shared-slice-read-only c = search needs
-
 only-requires : tie.Need-only-requires Inv-loop μ-loop
 only-requires c κs =
-    let s = c .before .before .before .before .before .before .before in
-    let v = s .pre .0 .names (c .before .before .before .loop .j) (counted (c .before)) in
-    rw (c .before .name-record .ensures) (omega (arith, v .node-within, s .pre .0 .header .narrow))
+    let s = c .before .before .before .before .before .before in
+    let v = s .pre .0 .names (c .before .before .loop .j) (counted c) in
+    omega (arith, c .node-of-record .ensures, v .node-within, s .pre .0 .header .narrow)
 
-byte-requires : tie.Need-byte-requires Inv-loop μ-loop
-byte-requires c κs = search needs
+name-of-requires : tie.Need-name-of-requires Inv-loop μ-loop
+name-of-requires c κs = search needs
+
+cast-store : tie.Need-cast-store Inv-loop μ-loop
+cast-store c = search needs
 
 add-store : tie.Need-add-store Inv-loop μ-loop
 add-store c = search needs
 
 store-requires : tie.Need-store-requires Inv-loop μ-loop
 store-requires c κs =
-    let s = c .before .before .before .before .before .before .before .before .before .before in
-    let l = c .before .before .before .before .before .before .loop in
-    let v = s .pre .0 .names (l .j) (counted (c .before .before .before .before)) in
-    rw (c .byte .ensures .0, c .before .before .before .before .name-record .ensures) (omega (arith, v .name-within, l .inv .1, s .pre .1))
+    let r = c .before .before .before in
+    let l = r .before .before .loop in
+    let s = r .before .before .before .before .before .before in
+    let v = s .pre .0 .names (l .j) (counted r) in
+    omega (arith, c .name-of .ensures, v .name-within, l .inv .1, s .pre .1)
 
 add-j : tie.Need-add-j Inv-loop μ-loop
 add-j c = search needs
@@ -65,19 +63,20 @@ loop-less c = search needs
 
 loop-again : tie.Need-loop-again Inv-loop μ-loop
 loop-again c =
-    let l = c .before .before .before .before .before .before .before .before .before .loop in
-    let r = c .before .before .before in
-    let a = c .before .before .before .before .before .before .before .before .before .before .before .before .before .args in
-    let ok = c .before .before .before .before .before .before .before .before .before .before .before .before .before .pre .0 in
-    let b = counted (r .before .before .before .before) in
-    let v = ok .names (l .j) b in
-    let n = r .before .before .before .before .name-record .ensures in (
+    let n = c .before .before .before in
+    let r = n .before .before .before in
+    let l = r .before .before .loop in
+    let s = r .before .before .before .before .before .before in
+    let d = s .args .d .now in
+    let ok = s .pre .0 in
+    let b = counted r in
+    let v = ok .names (l .j) b in (
       search needs,
       search needs,
-      rw (c .before .before .store .ensures, r .byte .ensures .0, n)
-          (filled-more (listedRow (a .d .now)) (λ j u. u ≡ nodeOfRecord (a .d .now) j) (l .j) _ (l .table) _ (listed-apart ok (l .j) b)
+      rw (c .before .before .store .ensures, n .name-of .ensures)
+          (filled-more (listedRow d) (λ j u. u ≡ nodeOfRecord d j) (l .j) _ (l .table) _ (listed-apart ok (l .j) b)
           (omega (arith, v .name-within, l .inv .1))
-          (rw (r .before .before .only .ensures, n) (exactly-only (nodeOfRecord (a .d .now) (l .j)) (omega (arith, v .node-within, ok .header .narrow))))
+          (rw (n .before .before .only .ensures, r .node-of-record .ensures) (exactly-only (nodeOfRecord d (l .j)) (omega (arith, v .node-within, ok .header .narrow))))
           (l .inv .2)),
     )
 
@@ -99,11 +98,10 @@ list-names-spec =
     μ-loop
     name-count-requires
     loop-holds
-    name-record-requires
-    add-only
-    shared-slice-read-only
+    node-of-record-requires
     only-requires
-    byte-requires
+    name-of-requires
+    cast-store
     add-store
     store-requires
     add-j

@@ -3,11 +3,6 @@
 use borrow.Author.Needs.{needs}
 use Rattle.evaluation.proofs.entries.add.Statement.{statement}
 use Rattle.evaluation.proofs.entries.add.Tie as tie
-use Rattle.evaluation.proofs.entries.add.Reads as reads
-use Rattle.evaluation.proofs.entries.add.Lts as lts
-use Rattle.nodeset.proofs.NodeSet.load.Reads as load-reads
-use Rattle.nodeset.proofs.NodeSet.store.Reads as store-reads
-use Rattle.nodeset.proofs.NodeSet.union.Reads as union-reads
 
 load-requires : tie.Need-load-requires
 load-requires c κs = search needs

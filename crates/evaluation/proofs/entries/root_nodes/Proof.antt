@@ -1,96 +1,57 @@
--- `evaluation::entries::root_nodes` meets its contract: the sets of the node entries passed are known.
+-- `evaluation::entries::root_nodes` meets its contract: the set of the last entry is known, and the area is cleared.
 -- Assumes nothing.
-use Rattle.evaluation.proofs.entries.root_nodes.Statement.{statement}
-use mathlib.Core.Path.{_≡_, refl, subst}
-use Prim.Native.Nat.{ℕ, _≤_, _-_}
-use native.Mathlib.Omega.{arith}
-use lib.ListN.{length}
 use borrow.Author.Needs.{needs}
-use Rattle.pattern.specs.File.Reading.{countOf}
+use mathlib.Core.Path.{_∙_, ap}
+use Prim.Native.Nat.{ℕ}
+use native.Mathlib.Omega.{arith}
+use lib.ListN.{replicate}
 use Rattle.evaluation.specs.Evaluated.{lent-valid}
-use Rattle.evaluation.specs.Known.{Knows, OthersKept, knows-none, kept-more, lent-again}
+use Rattle.evaluation.specs.Known.{root-known}
+use Rattle.evaluation.proofs.entries.root_nodes.Statement.{statement}
 use Rattle.evaluation.proofs.entries.root_nodes.Tie as tie
-use Rattle.evaluation.proofs.entries.root_nodes.Reads as reads
-use Rattle.evaluation.proofs.entries.root_nodes.Lts as lts
-use Rattle.evaluation.proofs.entries.learn.Reads as learn-reads
-use Rattle.nodeset.proofs.NodeSet.load.Reads as load-reads
 
-abbrev Inv-loop : tie.InvT-loop
-Inv-loop p table alike area₀ n k₀ area k = (k ≤ n) × (n ≡ countOf p) × (length area ≡ length area₀) × Knows p table alike area k × OthersKept p k area₀ area
+evaluate-all-requires : tie.Need-evaluate-all-requires
+evaluate-all-requires c κs = search needs
 
-abbrev μ-loop : tie.MeasureT-loop
-μ-loop p table alike area₀ n k₀ area k = n - k
+shared-slice-read-root : tie.Need-shared-slice-read-root
+shared-slice-read-root c = let s = c .before .before .before .before .before .before .before .before .before in omega (arith, lent-valid (s .pre .0) .header .length-is)
 
-shared-slice-read-n : tie.Need-shared-slice-read-n Inv-loop μ-loop
-shared-slice-read-n c = let s = c .before .before .before .before .before in omega (arith, lent-valid (s .pre .0) .header .length-is)
+sub-root : tie.Need-sub-root
+sub-root c = let s = c .before .before .before .before .before .before .before .before .before in omega (arith, lent-valid (s .pre .0) .header .some-entry)
 
-loop-holds : tie.Need-loop-holds Inv-loop μ-loop
-loop-holds c = let a = c .before .before .before .before .before .args in
-    (search needs, refl, refl, knows-none (a .p .now) (a .table .now) (a .alike .now) (a .area .now), λ i never. refl)
+cast-load : tie.Need-cast-load
+cast-load c = let s = c .before .before .before .before .before .before .before .before .before .before in omega (arith, lent-valid (s .pre .0) .header .one-byte)
 
-learn-requires : tie.Need-learn-requires Inv-loop μ-loop
-learn-requires c κs = let l = c .before .before in
-    let s = l .before .before .before .before .before .before in
-    (lent-again (s .pre .0) (l .loop .area) (l .loop .inv .2), omega (arith, l .loop .inv .1))
+load-requires : tie.Need-load-requires
+load-requires c κs =
+    let a = c .before .before .before .before in
+    let s = a .before .before .before .before .before .before in
+    omega (arith, s .pre .0 .area-long, a .evaluate-all .kept .1 .1 .1 .0, lent-valid (s .pre .0) .header .one-byte)
 
-add-k : tie.Need-add-k Inv-loop μ-loop
-add-k c =
-    let l = c .before .before .before .before .before in
-    let s = l .before .before .before .before .before .before in
-    omega (arith, lent-valid (s .pre .0) .header .one-byte, l .loop .inv .1)
+clear-requires : tie.Need-clear-requires
+clear-requires c κs = search needs
 
-loop-less : tie.Need-loop-less Inv-loop μ-loop
-loop-less c = search needs
-
-loop-again : tie.Need-loop-again Inv-loop μ-loop
-loop-again c = let l = c .before .before .before .before .before in
-    let e = c .before .before .learn .ensures in
-    let a = l .before .before .before .before .before .before .args in
-    (search needs, l .loop .inv .1, search needs, e .knows-more (l .loop .inv .3), kept-more (a .p .now) (l .loop .k) (a .area .now) (l .loop .area) _ (l .loop .inv .4) (e .others-kept))
-
-sub-root : tie.Need-sub-root Inv-loop μ-loop
-sub-root c = let l = c .before in
-    let s = l .before .before .before .before .before .before in omega (arith, lent-valid (s .pre .0) .header .some-entry, l .loop .inv .1)
-
-cast-load : tie.Need-cast-load Inv-loop μ-loop
-cast-load c =
-    let l = c .before .before in
-    let s = l .before .before .before .before .before .before in
-    omega (arith, lent-valid (s .pre .0) .header .one-byte, l .loop .inv .1)
-
-load-requires : tie.Need-load-requires Inv-loop μ-loop
-load-requires c κs = let l = c .before .before in
-    let s = l .before .before .before .before .before .before in
-    omega (arith, s .pre .0 .area-long, l .loop .inv .2, lent-valid (s .pre .0) .header .one-byte, l .loop .inv .1)
-
-same-length : tie.Need-same-length Inv-loop μ-loop
+same-length : tie.Need-same-length
 same-length c = search needs
 
-returns : tie.Need-returns Inv-loop μ-loop
-returns c = let l = c .before .before .before in
-    let a = l .before .before .before .before .before .before .args in
-    let done : l .loop .k ≡ countOf (a .p .now) = omega (arith, l .loop .inv .0, l .loop .inv .1) in (
-      rw (l .loop .inv .1) at (c .load .ensures),
-      (
-        subst (λ (k : ℕ). Knows (a .p .now) (a .table .now) (a .alike .now) (l .loop .area) k) done (l .loop .inv .3),
-        subst (λ (k : ℕ). OthersKept (a .p .now) k (a .area .now) (l .loop .area)) done (l .loop .inv .4),
-      ),
+returns : tie.Need-returns
+returns c =
+    let l = c .before .before .before .before in
+    let a = l .before .before .before .before .before in
+    let s = a .before .before .before .before .before .before in (
+      rw (l .load .ensures) (root-known (s .pre .0) _ (a .evaluate-all .ensures)),
+      c .before .before .clear .ensures ∙ ap (λ (n : ℕ). replicate n 0) (a .evaluate-all .kept .1 .1 .1 .0),
     )
 
 pub root-nodes-spec : {M : Type 1} → statement M
 root-nodes-spec =
     tie.close
     (tie.spec
-    Inv-loop
-    μ-loop
-    shared-slice-read-n
-    loop-holds
-    learn-requires
-    add-k
-    loop-less
-    loop-again
+    evaluate-all-requires
+    shared-slice-read-root
     sub-root
     cast-load
     load-requires
+    clear-requires
     same-length
     returns)

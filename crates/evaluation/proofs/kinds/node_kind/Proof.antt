@@ -3,8 +3,6 @@
 use borrow.Author.Needs.{needs}
 use Rattle.evaluation.proofs.kinds.node_kind.Statement.{statement}
 use Rattle.evaluation.proofs.kinds.node_kind.Tie as tie
-use Rattle.evaluation.proofs.kinds.node_kind.Reads as reads
-use Rattle.evaluation.proofs.kinds.node_kind.Lts as lts
 
 enum-told : tie.Need-enum-told
 enum-told c = search needs

@@ -1,12 +1,11 @@
 -- `evaluation::relations::alike_to` meets its contract.
 -- Assumes nothing.
 use borrow.Author.Needs.{needs}
+use Prim.Native.Nat.{ℕ}
+use mathlib.Core.Path.{ap, _∙_}
+use Rattle.nodeset.specs.Stored.{setAt}
 use Rattle.evaluation.proofs.relations.alike_to.Statement.{statement}
 use Rattle.evaluation.proofs.relations.alike_to.Tie as tie
-use Rattle.evaluation.proofs.relations.alike_to.Reads as reads
-use Rattle.evaluation.proofs.relations.alike_to.Lts as lts
-use Rattle.evaluation.proofs.rows.row_of.Reads as row-of-reads
-use Rattle.nodeset.proofs.NodeSet.load.Reads as load-reads
 
 row-of-requires : tie.Need-row-of-requires
 row-of-requires c κs = search needs
@@ -15,7 +14,9 @@ load-requires : tie.Need-load-requires
 load-requires c κs = search needs
 
 returns : tie.Need-returns
-returns c = rw (c .load .ensures, c .before .row-of .ensures)
+returns c =
+    let alike = c .before .before .before .args .alike .now in
+    c .load .ensures ∙ ap (λ (row : ℕ). setAt alike row) (c .before .row-of .ensures)
 
 pub alike-to-spec : {M : Type 1} → statement M
 alike-to-spec = tie.close (tie.spec row-of-requires load-requires returns)

@@ -12,11 +12,6 @@ use Rattle.evaluation.specs.Nodes.{Before}
 use Rattle.evaluation.proofs.relations.before.Statement.{statement}
 use borrow.Author.Needs.{needs}
 use Rattle.evaluation.proofs.relations.before.Tie as tie
-use Rattle.evaluation.proofs.relations.before.Reads as reads
-use Rattle.evaluation.proofs.relations.before.Lts as lts
-use Rattle.nodeset.proofs.NodeSet.insert_if.Reads as insert-if-reads
-use Rattle.evaluation.proofs.relations.leads_into.Reads as leads-into-reads
-use Rattle.nodeset.proofs.NodeSet.empty.Reads as empty-reads
 
 abbrev Inv-loop : tie.InvT-loop
 Inv-loop table axis s found₀ u₀ found u = (u ≤ width) × Collected (Before table axis s) u found

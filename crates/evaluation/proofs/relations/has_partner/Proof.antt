@@ -4,11 +4,6 @@ use borrow.Author.Needs.{needs}
 use Rattle.evaluation.specs.Members.{meets, exceeds}
 use Rattle.evaluation.proofs.relations.has_partner.Statement.{statement}
 use Rattle.evaluation.proofs.relations.has_partner.Tie as tie
-use Rattle.evaluation.proofs.relations.has_partner.Reads as reads
-use Rattle.evaluation.proofs.relations.has_partner.Lts as lts
-use Rattle.nodeset.proofs.NodeSet.is_empty.Reads as is-empty-reads
-use Rattle.nodeset.proofs.NodeSet.meet.Reads as meet-reads
-use Rattle.nodeset.proofs.NodeSet.minus.Reads as minus-reads
 
 enum-told : tie.Need-enum-told
 enum-told c = search needs

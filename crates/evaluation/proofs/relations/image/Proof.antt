@@ -12,14 +12,6 @@ use Rattle.evaluation.specs.Members.{Gathered, gathered-none, gathered-m
 use Rattle.evaluation.proofs.relations.image.Statement.{statement}
 use borrow.Author.Needs.{needs}
 use Rattle.evaluation.proofs.relations.image.Tie as tie
-use Rattle.evaluation.proofs.relations.image.Reads as reads
-use Rattle.evaluation.proofs.relations.image.Lts as lts
-use Rattle.evaluation.proofs.relations.successors.Reads as successors-reads
-use Rattle.nodeset.proofs.NodeSet.empty.Reads as empty-reads
-use Rattle.nodeset.proofs.NodeSet.is_empty.Reads as is-empty-reads
-use Rattle.nodeset.proofs.NodeSet.lowest.Reads as lowest-reads
-use Rattle.nodeset.proofs.NodeSet.but_lowest.Reads as but-lowest-reads
-use Rattle.nodeset.proofs.NodeSet.union.Reads as union-reads
 
 abbrev Inv-loop : tie.InvT-loop
 Inv-loop table axis rest₀ reached₀ rest reached = Gathered (λ u. setAt table (successorsRow axis u)) rest₀ rest reached

@@ -11,13 +11,6 @@ use Rattle.evaluation.specs.Tables.{successorsRow}
 use Rattle.evaluation.specs.Members.{meets}
 use Rattle.evaluation.proofs.relations.leads_into.Statement.{statement}
 use Rattle.evaluation.proofs.relations.leads_into.Tie as tie
-use Rattle.evaluation.proofs.relations.leads_into.Reads as reads
-use Rattle.evaluation.proofs.relations.leads_into.Lts as lts
-use Rattle.evaluation.proofs.relations.all_nodes.Reads as all-nodes-reads
-use Rattle.evaluation.proofs.relations.successors.Reads as successors-reads
-use Rattle.nodeset.proofs.NodeSet.has.Reads as has-reads
-use Rattle.nodeset.proofs.NodeSet.is_empty.Reads as is-empty-reads
-use Rattle.nodeset.proofs.NodeSet.meet.Reads as meet-reads
 
 all-nodes-requires : tie.Need-all-nodes-requires
 all-nodes-requires c κs = search needs

@@ -15,13 +15,6 @@ use Rattle.evaluation.specs.Members.{Searched, searched-none, searched-m
 use Rattle.evaluation.specs.Nodes.{Partner}
 use Rattle.evaluation.proofs.relations.some_pair.Statement.{statement}
 use Rattle.evaluation.proofs.relations.some_pair.Tie as tie
-use Rattle.evaluation.proofs.relations.some_pair.Reads as reads
-use Rattle.evaluation.proofs.relations.some_pair.Lts as lts
-use Rattle.evaluation.proofs.relations.alike_to.Reads as alike-to-reads
-use Rattle.evaluation.proofs.relations.has_partner.Reads as has-partner-reads
-use Rattle.nodeset.proofs.NodeSet.is_empty.Reads as is-empty-reads
-use Rattle.nodeset.proofs.NodeSet.lowest.Reads as lowest-reads
-use Rattle.nodeset.proofs.NodeSet.but_lowest.Reads as but-lowest-reads
 
 abbrev Inv-loop : tie.InvT-loop
 Inv-loop alike channel c t rest₀ rest = Searched (λ u. Partner c (setAt alike (alikeRow channel u)) t) rest₀ rest

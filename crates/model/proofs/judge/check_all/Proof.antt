@@ -10,10 +10,6 @@ use Rattle.model.specs.Judging.{judgingCheck}
 use borrow.Author.Tests.{lt-ltb, le-ltb}
 use Rattle.model.proofs.judge.check_all.Statement.{statement}
 use Rattle.model.proofs.judge.check_all.Tie as tie
-use Rattle.model.proofs.judge.check_all.Reads as reads
-use Rattle.model.proofs.judge.check_all.Lts as lts
-use Rattle.model_file.proofs.check.Reads as check-reads
-use Rattle.pattern_read.proofs.read.Reads as read-reads
 
 read-requires : tie.Need-read-requires
 read-requires c κs = search needs
@@ -36,7 +32,7 @@ pattern-passed c =
 
 returns-2 : tie.Need-returns-2
 unfolding judgingCheck
-returns-2 c = rw (pattern-passed (c .before), lt-ltb _ 2040 (c .if1 .taken))
+returns-2 c = rw (pattern-passed (c .before), lt-ltb (c .before .before .before .before .before .before .args .size) 2040 (c .if1 .taken))
 
 check-requires : tie.Need-check-requires
 check-requires c κs = search needs

@@ -10,14 +10,9 @@ use Rattle.pattern.specs.Checks.Finding.{found, passes}
 use Rattle.pattern.specs.File.Reading.{countOf}
 use Rattle.pattern.specs.File.Valid.{Valid, valid-read}
 use Rattle.model_file.specs.Valid.{ValidModel}
-use Rattle.model.specs.Judging.{areaNeed, judgingCheck, checkOf, checks-pass, judging-finds, judging-refuses, finding-means}
+use Rattle.model.specs.Judging.{areaNeed, judgingCheck, checkOf, checks-pass, judging-finds, judging-refuses, finding-means, root-judged}
 use Rattle.model.proofs.judge.judge.Statement.{statement}
 use Rattle.model.proofs.judge.judge.Tie as tie
-use Rattle.model.proofs.judge.judge.Reads as reads
-use Rattle.model.proofs.judge.judge.Lts as lts
-use Rattle.model.proofs.judge.check_all.Reads as check-all-reads
-use Rattle.model.proofs.judge.evaluate.Reads as evaluate-reads
-use Rattle.model.proofs.judge.judged.Reads as judged-reads
 
 check-all-requires : tie.Need-check-all-requires
 check-all-requires c κs = search needs
@@ -50,21 +45,21 @@ allowed c =
     let a = c .before .before .before .before .before .before .args in
     checks-pass (a .p .now) (a .d .now) (length (a .area .now)) .0 (checked c)
 
-slice-relend-prefix-evaluate : tie.Need-slice-relend-prefix-evaluate
-slice-relend-prefix-evaluate c = allowed c .1
+slice-relend-prefix-root-nodes : tie.Need-slice-relend-prefix-root-nodes
+slice-relend-prefix-root-nodes c = allowed c .1
 
-front : (c : tie.After-evaluate-arg)
+front : (c : tie.After-root-nodes-arg)
     → let a = c .before .before .before .before .before .before .before .args in
     length (take (areaNeed (a .p .now)) (a .area .now)) ≡ areaNeed (a .p .now)
 front c =
     let a = c .before .before .before .before .before .before .before .args in
     front-length (areaNeed (a .p .now)) (a .area .now) (allowed (c .before) .1)
 
-slice-aggregate-evaluate : tie.Need-slice-aggregate-evaluate
-slice-aggregate-evaluate c = sym (front c)
+slice-aggregate-root-nodes : tie.Need-slice-aggregate-root-nodes
+slice-aggregate-root-nodes c = sym (front c)
 
-evaluate-requires : tie.Need-evaluate-requires
-evaluate-requires c κs = let ok = allowed (c .before) in (valid-read _ _ (ok .0), (ok .2, rw (front c) (le-refl _)))
+root-nodes-requires : tie.Need-root-nodes-requires
+root-nodes-requires c κs = let ok = allowed (c .before) in (valid-read _ _ (ok .0), (ok .2, rw (front c) (le-refl _)))
 
 judged-requires : tie.Need-judged-requires
 judged-requires c κs = search needs
@@ -79,10 +74,10 @@ returns-2 c = let v = c .before .before .before in
     let bs = a .p .now in
     let ds = a .d .now in
     let area = a .area .now in
-    let e = c .judged .ensures ∙ ap found (v .evaluate .ensures .0) ∙ sym (judging-finds bs ds (length area) (checked t)) in (
+    let e = c .judged .ensures ∙ ap found (root-judged bs (allowed t .2) (v .root-nodes .result) (v .root-nodes .ensures .0)) ∙ sym (judging-finds bs ds (length area) (checked t)) in (
       e,
       (
-        rw (c .judged .ensures) (cleared-front (areaNeed bs) area _ (allowed t .1) (v .evaluate .ensures .1)),
+        rw (c .judged .ensures) (cleared-front (areaNeed bs) area _ (allowed t .1) (v .root-nodes .ensures .1)),
         finding-means bs ds (length area) _ e,
       ),
     )
@@ -95,9 +90,9 @@ judge-spec =
     enum-known-refusal
     returns
     enum-told
-    slice-relend-prefix-evaluate
-    slice-aggregate-evaluate
-    evaluate-requires
+    slice-relend-prefix-root-nodes
+    slice-aggregate-root-nodes
+    root-nodes-requires
     judged-requires
     same-length
     returns-2)

@@ -1,19 +1,15 @@
 -- `model::judge::judged` meets its contract, by the laws of `judgedBy`.
 -- Assumes nothing.
 use borrow.Author.Needs.{needs}
-use mathlib.Core.Path.{sym, _∙_, ap}
+use Prim.Native.Nat.{ℕ}
+use mathlib.Core.Path.{sym, _∙_, ap, ap₂}
 use borrow.Author.Tests.{eqb-true}
 use Rattle.nodeset.specs.Set.{width, has, sizeOf}
 use Rattle.pattern.specs.Checks.Finding.{found}
-use Rattle.decision.specs.Judged.{judged-empty, judged-low}
+use Rattle.decision.specs.Judged.{met, judged-empty, judged-low}
 use Rattle.nodeset.specs.Members.{lowest-member}
 use Rattle.model.proofs.judge.judged.Statement.{statement}
 use Rattle.model.proofs.judge.judged.Tie as tie
-use Rattle.model.proofs.judge.judged.Reads as reads
-use Rattle.model.proofs.judge.judged.Lts as lts
-use Rattle.nodeset.proofs.NodeSet.count.Reads as count-reads
-use Rattle.nodeset.proofs.NodeSet.is_empty.Reads as is-empty-reads
-use Rattle.nodeset.proofs.NodeSet.lowest.Reads as lowest-reads
 
 is-empty-requires : tie.Need-is-empty-requires
 is-empty-requires c κs = search needs
@@ -31,7 +27,8 @@ count-requires c κs = search needs
 returns-2 : tie.Need-returns-2
 returns-2 c = let e = c .before .before in
     let s = e .before .before .args .s in
-    rw (c .count .ensures, c .before .lowest .ensures) (ap found (sym (judged-low width (has s) (lowest-member s (sym (e .before .is-empty .ensures) ∙ e .if1 .left) .0))))
+    let some = lowest-member s (sym (e .before .is-empty .ensures) ∙ e .if1 .left) .0 in
+    ap₂ (λ (l n : ℕ). found (met l n)) (c .before .lowest .ensures) (c .count .ensures) ∙ ap found (sym (judged-low width (has s) some))
 
 pub judged-spec : {M : Type 1} → statement M
 judged-spec =

@@ -1,4 +1,4 @@
--- `evaluation::entries::learn` meets its contract, by the laws `learns-node` and `learns-path`.
+-- `evaluation::entries::evaluate_entry` meets its contract, by the laws `node-known` and `path-passed-over`.
 -- Assumes nothing.
 use borrow.Author.Needs.{needs}
 use mathlib.Core.Path.{_≡_}
@@ -7,15 +7,9 @@ use Rattle.pattern.specs.File.Table.{sort-node, sort-no-node}
 use Rattle.pattern.specs.File.Reading.{sortAt}
 use borrow.Author.Tests.{not-true, not-false}
 use Rattle.evaluation.specs.Evaluated.{entry-long, set-long}
-use Rattle.evaluation.specs.Known.{learns-node, learns-path}
-use Rattle.evaluation.proofs.entries.learn.Statement.{statement}
-use Rattle.evaluation.proofs.entries.learn.Tie as tie
-use Rattle.evaluation.proofs.entries.learn.Reads as reads
-use Rattle.evaluation.proofs.entries.learn.Lts as lts
-use Rattle.evaluation.proofs.entries.evaluate.Reads as evaluate-reads
-use Rattle.nodeset.proofs.NodeSet.store.Reads as store-reads
-use Rattle.pattern.proofs.entry.sort_at.Reads as sort-at-reads
-use Rattle.pattern.proofs.table.Sort.is_node.Reads as is-node-reads
+use Rattle.evaluation.specs.Known.{node-known, path-passed-over}
+use Rattle.evaluation.proofs.entries.evaluate_entry.Statement.{statement}
+use Rattle.evaluation.proofs.entries.evaluate_entry.Tie as tie
 
 sort-at-requires : tie.Need-sort-at-requires
 sort-at-requires c κs = let s = c .before .before .before .before in entry-long (s .pre .0) (s .args .k) (s .pre .1)
@@ -26,7 +20,7 @@ is-node-requires c κs = search needs
 returns : tie.Need-returns
 returns c = let a = c .before .before .before .before .before .before .before .args in
     let none = not-true (c .before .is-node .result) (c .if1 .taken) in
-    learns-path (a .p .now) (a .table .now) (a .alike .now) (a .area .now) (a .k)
+    path-passed-over (a .p .now) (a .table .now) (a .alike .now) (a .area .now) (a .k)
     (sort-no-node _ (rw (c .before .is-node .ensures, c .before .before .sort-at .ensures) at none))
 
 -- the entry is a node where the function goes on
@@ -52,10 +46,10 @@ returns-2 c = let st = c .before .before in
     let s = e .before .before .before .before .before .before .before .before in
     let a = s .args in
     rw (st .store .ensures)
-    (learns-node (a .p .now) (a .table .now) (a .alike .now) (a .area .now) (a .k) (st .before .before .evaluate .result) (set-long (s .pre .0) (a .k) (s .pre .1)) (node e) (st .before .before .evaluate .ensures))
+    (node-known (a .p .now) (a .table .now) (a .alike .now) (a .area .now) (a .k) (st .before .before .evaluate .result) (set-long (s .pre .0) (a .k) (s .pre .1)) (node e) (st .before .before .evaluate .ensures))
 
-pub learn-spec : {M : Type 1} → statement M
-learn-spec =
+pub evaluate-entry-spec : {M : Type 1} → statement M
+evaluate-entry-spec =
     tie.close
     (tie.spec
     sort-at-requires
