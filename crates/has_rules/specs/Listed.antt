@@ -8,7 +8,7 @@ use Rattle.lines.specs.declared.line.Line.{Line}
 use Rattle.rules.specs.declared.conclusion.Outcome.{Outcome}
 use Rattle.rules.specs.Rules.{ruleAt}
 use Rattle.rules.specs.Table.{NoneOf}
-use Rattle.rules.specs.Fits.{unlisted}
+use Rattle.rules.specs.RuleLaws.{unlisted}
 
 -- listed last first
 abbrev pub hasRules : List ℕ
@@ -16,5 +16,5 @@ hasRules = 21 ∷ 7 ∷ 6 ∷ 5 ∷ 4 ∷ 3 ∷ 2 ∷ 1 ∷ []
 
 -- a rule that isn't listed has no has/lacks line for P
 pub has-unfit : (bs : List ℕ) (h : HasLine) (Q : Line) (a k : ℕ) → NoneOf k hasRules
-    → ruleAt k .concludes bs (Line.Has h) Q a ≡ Outcome.Unfit
+    → ruleAt k .outcome bs (Line.Has h) Q a ≡ Outcome.Unfit
 has-unfit bs h Q a = unlisted bs (Line.Has h) Q a hasRules refl

@@ -1,15 +1,15 @@
--- `left_rules::conclude` meets its contract: where the left path isn't at its end, each arm is the rule of its number.
+-- `left_rules::outcome` meets its contract: where the left path isn't at its end, each arm is the rule of its number.
 -- Assumes nothing.
 use mathlib.Core.Path.{_≡_, sym, _∙_}
 use mathlib.Core.Bool.{false}
 use Rattle.lines.specs.declared.line.Line.{Line}
 use Rattle.lines.specs.Parts.{atEnd}
 use Rattle.rules.specs.Rules.{rule9, rule10, rule11, rule12, rule13, rule14, rule15, ruleAt}
-use Rattle.rules.specs.Fits.{of-rule}
-use Rattle.left_rules.specs.Fits.{entry-within, compare-unfit, end-unfit, fits-left}
+use Rattle.rules.specs.RuleLaws.{of-rule}
+use Rattle.left_rules.specs.Listed.{entry-within, compare-unfit, end-unfit, fits-left}
 use borrow.Author.Needs.{needs}
-use Rattle.left_rules.proofs.conclude.Statement.{statement}
-use Rattle.left_rules.proofs.conclude.Tie as tie
+use Rattle.left_rules.proofs.outcome.Statement.{statement}
+use Rattle.left_rules.proofs.outcome.Tie as tie
 
 at-end-requires : tie.Need-at-end-requires
 at-end-requires c κs = search needs
@@ -111,8 +111,8 @@ returns-9 c =
     let a = s .args in
     sym (compare-unfit (a .p .now) (a .l) (a .q) (a .argument) (a .rule) (c .match .rest) (s .pre .0))
 
-pub conclude-spec : {M : Type 1} → statement M
-conclude-spec =
+pub outcome-spec : {M : Type 1} → statement M
+outcome-spec =
     tie.close
     (tie.spec
     at-end-requires

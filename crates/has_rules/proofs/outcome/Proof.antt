@@ -1,13 +1,13 @@
--- `has_rules::conclude` meets its contract: each arm is the rule of its number, and P fits no rule of another.
+-- `has_rules::outcome` meets its contract: each arm is the rule of its number, and P fits no rule of another.
 -- Assumes nothing.
 use mathlib.Core.Path.{sym, _∙_}
 use Rattle.lines.specs.declared.line.Line.{Line}
 use Rattle.rules.specs.Rules.{ruleAt}
-use Rattle.rules.specs.Fits.{of-rule}
-use Rattle.has_rules.specs.Fits.{has-unfit}
+use Rattle.rules.specs.RuleLaws.{of-rule}
+use Rattle.has_rules.specs.Listed.{has-unfit}
 use borrow.Author.Needs.{needs}
-use Rattle.has_rules.proofs.conclude.Statement.{statement}
-use Rattle.has_rules.proofs.conclude.Tie as tie
+use Rattle.has_rules.proofs.outcome.Statement.{statement}
+use Rattle.has_rules.proofs.outcome.Tie as tie
 
 at-requires : tie.Need-at-requires
 at-requires c κs = search needs
@@ -99,8 +99,8 @@ returns-9 c =
     let a = c .before .before .before .args in
     sym (has-unfit (a .p .now) (a .h) (a .q) (a .argument) (a .rule) (c .match .rest))
 
-pub conclude-spec : {M : Type 1} → statement M
-conclude-spec =
+pub outcome-spec : {M : Type 1} → statement M
+outcome-spec =
     tie.close
     (tie.spec
     at-requires

@@ -1,13 +1,13 @@
--- `is_rules::conclude` meets its contract: each arm is the rule of its number, and P fits no rule of another.
+-- `is_rules::outcome` meets its contract: each arm is the rule of its number, and P fits no rule of another.
 -- Assumes nothing.
 use mathlib.Core.Path.{sym, _∙_}
 use Rattle.lines.specs.declared.line.Line.{Line}
 use Rattle.rules.specs.Rules.{ruleAt}
-use Rattle.rules.specs.Fits.{of-rule}
-use Rattle.is_rules.specs.Fits.{is-unfit}
+use Rattle.rules.specs.RuleLaws.{of-rule}
+use Rattle.is_rules.specs.Listed.{is-unfit}
 use borrow.Author.Needs.{needs}
-use Rattle.is_rules.proofs.conclude.Statement.{statement}
-use Rattle.is_rules.proofs.conclude.Tie as tie
+use Rattle.is_rules.proofs.outcome.Statement.{statement}
+use Rattle.is_rules.proofs.outcome.Tie as tie
 
 rule17-requires : tie.Need-rule17-requires
 rule17-requires c κs = search needs
@@ -57,8 +57,8 @@ returns-5 c =
 returns-6 : tie.Need-returns-6
 returns-6 c = let a = c .before .args in λ bs. sym (is-unfit bs (a .l) (a .q) (a .argument) (a .rule) (c .match .rest))
 
-pub conclude-spec : {M : Type 1} → statement M
-conclude-spec =
+pub outcome-spec : {M : Type 1} → statement M
+outcome-spec =
     tie.close
     (tie.spec
     rule17-requires

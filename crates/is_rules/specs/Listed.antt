@@ -8,7 +8,7 @@ use Rattle.lines.specs.declared.line.Line.{Line}
 use Rattle.rules.specs.declared.conclusion.Outcome.{Outcome}
 use Rattle.rules.specs.Rules.{ruleAt}
 use Rattle.rules.specs.Table.{NoneOf}
-use Rattle.rules.specs.Fits.{unlisted}
+use Rattle.rules.specs.RuleLaws.{unlisted}
 
 -- listed last first
 abbrev pub isRules : List ℕ
@@ -16,5 +16,5 @@ isRules = 23 ∷ 21 ∷ 19 ∷ 18 ∷ 17 ∷ []
 
 -- a rule that isn't listed has no is/is not line for P
 pub is-unfit : (bs : List ℕ) (l : IsLine) (Q : Line) (a k : ℕ) → NoneOf k isRules
-    → ruleAt k .concludes bs (Line.Is l) Q a ≡ Outcome.Unfit
+    → ruleAt k .outcome bs (Line.Is l) Q a ≡ Outcome.Unfit
 is-unfit bs l Q a = unlisted bs (Line.Is l) Q a isRules refl
