@@ -1,12 +1,12 @@
--- `steps::conclude::compare` meets its contract: each arm is the rule of its number.
+-- `steps::outcome::compare` meets its contract: each arm is the rule of its number.
 -- Assumes nothing.
 use mathlib.Core.Path.{_∙_}
 use Rattle.lines.specs.declared.line.Line.{Line}
 use Rattle.rules.specs.Rules.{ruleAt}
-use Rattle.rules.specs.Fits.{of-rule}
+use Rattle.rules.specs.RuleLaws.{of-rule}
 use borrow.Author.Needs.{needs}
-use Rattle.steps.proofs.conclude.compare.Statement.{statement}
-use Rattle.steps.proofs.conclude.compare.Tie as tie
+use Rattle.steps.proofs.outcome.compare.Statement.{statement}
+use Rattle.steps.proofs.outcome.compare.Tie as tie
 
 rule8-requires : tie.Need-rule8-requires
 rule8-requires c κs = search needs
@@ -35,8 +35,8 @@ rule23-requires c κs = search needs
 clash-if-requires-3 : tie.Need-clash-if-requires-3
 clash-if-requires-3 c κs = search needs
 
-conclude-requires : tie.Need-conclude-requires
-conclude-requires c κs = search needs
+outcome-requires : tie.Need-outcome-requires
+outcome-requires c κs = search needs
 
 returns : tie.Need-returns
 unfolding ruleAt
@@ -93,7 +93,7 @@ compare-spec =
     clash-if-requires-2
     rule23-requires
     clash-if-requires-3
-    conclude-requires
+    outcome-requires
     returns
     returns-2
     returns-3
