@@ -6,20 +6,23 @@ use mathlib.Core.Path.{_≡_}
 use Prim.Native.Nat.{ℕ, _+_, _-_, _*_, _≤_, _<_, max}
 use lib.Dec.{ltb}
 use lib.ListN.{length}
+use Rattle.pattern.specs.declared.types.Name.{Name}
+use Rattle.pattern.specs.declared.types.Sign.{Sign}
 use Rattle.pattern.specs.Checks.Finding.{Finding, found, refused}
 use Rattle.lines.specs.declared.line.Line.{Line}
 use Rattle.rules.specs.declared.conclusion.Conclusion.{Conclusion}
-use Rattle.rules.specs.Conclusions.{sides}
+use Rattle.rules.specs.Sides.{sides}
+use Rattle.lines.specs.Lines.{has}
 use Rattle.lines.specs.Stored.{lineAt, linesFrom, putLine}
 use Rattle.steps.specs.Standing.{Standing}
 use Rattle.steps.specs.Steps.{stepAt, stepsFrom, stepping}
 use Rattle.tableau.specs.declared.finding.Counts.{Counts}
 use Rattle.tableau.specs.declared.finding.Closed.{Closed}
 use Rattle.tableau.specs.declared.finding.WalkRefusal.{WalkRefusal}
-use Rattle.tableau_judge.specs.declared.walk.Stop.{Stop}
-use Rattle.tableau_judge.specs.declared.walk.Advance.{Advance}
-use Rattle.tableau_judge.specs.declared.walk.Walked.{Walked}
-use Rattle.tableau.specs.Run.{run, maxLines}
+use Rattle.branch_walk.specs.declared.walk.Stop.{Stop}
+use Rattle.branch_walk.specs.declared.walk.Advance.{Advance}
+use Rattle.branch_walk.specs.declared.walk.BranchEnd.{BranchEnd}
+use Rattle.tableau.specs.Run.{run, none, maxLines}
 use Rattle.tableau.specs.Judging.{maxSteps, areaNeed, closedBy, walkNumber, walkPlace}
 
 -- ---- the counts, as the code counts
@@ -86,16 +89,17 @@ Refuses bs ss s xs k len refusal =
     (ws : List (List Line)) (c : Counts) → remaining bs ss s k (linesFrom xs 0 len ∷ ws) c ≡ refused (walkNumber refusal) (walkPlace refusal)
 
 -- step k is a step, and concludes this on the branch of len lines
-abbrev pub Concludes : List ℕ → List ℕ → ℕ → List ℕ → ℕ → ℕ → Conclusion → Type 0
-Concludes bs ss s xs k len c = (k < s) × (stepping bs (linesFrom xs 0 len) (stepAt ss k) k ≡ found c)
+abbrev pub StepConcludes : List ℕ → List ℕ → ℕ → List ℕ → ℕ → ℕ → Conclusion → Type 0
+StepConcludes bs ss s xs k len c = (k < s) × (stepping bs (linesFrom xs 0 len) (stepAt ss k) k ≡ found c)
 
 -- the straight part of a branch ends so
 abbrev pub StopSays : List ℕ → ℕ → List ℕ → ℕ → List ℕ → ℕ → ℕ → Stop → List ℕ → Type 0
-StopSays bs n ss s xs k len (Stop.Clash k′ len′) ys = Onto bs n ss s xs k len ys k′ len′ × Concludes bs ss s ys k′ len′ Conclusion.Clash
+StopSays bs n ss s xs k len (Stop.Clash k′ len′) ys = Onto bs n ss s xs k len ys k′ len′ × StepConcludes bs ss s ys k′ len′ Conclusion.Clash
 StopSays bs n ss s xs k len (Stop.Fork k′ len′ l r) ys =
-    Onto bs n ss s xs k len ys k′ len′ × (Concludes bs ss s ys k′ len′ (Conclusion.Fork l r) × (len′ < maxLines))
+    Onto bs n ss s xs k len ys k′ len′ × (StepConcludes bs ss s ys k′ len′ (Conclusion.Fork l r) × (len′ < maxLines))
 StopSays bs n ss s xs k len (Stop.Refused refusal) ys = Refuses bs ss s xs k len refusal
 
+-- StopSays computes by the case of the stop, and a law can't find its arguments under it: the record keeps them. So do Advances and Walks.
 pub record Stops (bs : List ℕ) (n : ℕ) (ss : List ℕ) (s : ℕ) (xs : List ℕ) (k len : ℕ) (stop : Stop) (ys : List ℕ) : Type 0 where
   pub says : StopSays bs n ss s xs k len stop ys
 
@@ -123,22 +127,26 @@ pub record ClosedAt (bs ss : List ℕ) (s : ℕ) (xs : List ℕ) (k len waiting 
       → remaining bs ss s k (linesFrom xs 0 len ∷ ws) c ≡ remaining bs ss s k′ ws c′
 
 -- the walk over a branch finds so, with so many right sides waiting
-abbrev pub WalkSays : List ℕ → List ℕ → ℕ → List ℕ → ℕ → ℕ → ℕ → Counts → Walked → List ℕ → Type 0
-WalkSays bs ss s xs k len waiting c (Walked.Closed k′ c′) ys = ClosedAt bs ss s xs k len waiting c k′ c′ ys
-WalkSays bs ss s xs k len waiting c (Walked.Refused refusal) ys =
+abbrev pub WalkSays : List ℕ → List ℕ → ℕ → List ℕ → ℕ → ℕ → ℕ → Counts → BranchEnd → List ℕ → Type 0
+WalkSays bs ss s xs k len waiting c (BranchEnd.Closed k′ c′) ys = ClosedAt bs ss s xs k len waiting c k′ c′ ys
+WalkSays bs ss s xs k len waiting c (BranchEnd.Refused refusal) ys =
     (ws : List (List Line)) → length ws ≡ waiting
     → remaining bs ss s k (linesFrom xs 0 len ∷ ws) c ≡ refused (walkNumber refusal) (walkPlace refusal)
 
-pub record Walks (bs ss : List ℕ) (s : ℕ) (xs : List ℕ) (k len waiting : ℕ) (c : Counts) (walked : Walked) (ys : List ℕ) : Type 0 where
-  pub says : WalkSays bs ss s xs k len waiting c walked ys
+pub record Walks (bs ss : List ℕ) (s : ℕ) (xs : List ℕ) (k len waiting : ℕ) (c : Counts) (end : BranchEnd) (ys : List ℕ) : Type 0 where
+  pub says : WalkSays bs ss s xs k len waiting c end ys
 
 -- ---- the end of the walk
+
+-- what is found of the bytes of s steps, for a pattern of n entries and a start name
+abbrev pub stepsFound : List ℕ → ℕ → List ℕ → Name → ℕ → Finding Closed
+stepsFound bs n ss start s = closedBy s (run bs ((has Sign.Positive start (n - 1) ∷ []) ∷ []) (stepsFrom ss 0 s) 0 none)
 
 abbrev pub finishedIf : Bool → ℕ → ℕ → Counts → Finding Closed
 finishedIf true s k c = refused 25 k
 finishedIf false s k c = closedBy s (found c)
 
 -- what is found where the walk over the first branch ends so, of s steps: "25, all branches already closed"
-abbrev pub finished : ℕ → Walked → Finding Closed
-finished s (Walked.Closed k c) = finishedIf (ltb k s) s k c
-finished s (Walked.Refused refusal) = refused (walkNumber refusal) (walkPlace refusal)
+abbrev pub finished : ℕ → BranchEnd → Finding Closed
+finished s (BranchEnd.Closed k c) = finishedIf (ltb k s) s k c
+finished s (BranchEnd.Refused refusal) = refused (walkNumber refusal) (walkPlace refusal)

@@ -21,20 +21,21 @@ use Rattle.steps.specs.declared.step.Step.{Step}
 use Rattle.rules.specs.declared.conclusion.Conclusion.{Conclusion}
 use Rattle.steps.specs.declared.step.StepRefusal.{StepRefusal}
 use Rattle.steps.specs.declared.step.StepAnswer.{StepAnswer}
-use Rattle.lines.specs.Lines.{Formed, AllFormed, has}
+use Rattle.lines.specs.Lines.{has}
+use Rattle.lines.specs.Formed.{Formed, AllFormed}
 use Rattle.lines.specs.Stored.{lineAt, linesFrom, putLine, length-put, put-same, put-other, length-lines, lines-same, push-line}
 use Rattle.soundness.specs.FormedRules.{EachFormed, FormedConclusion, step-formed}
 use Rattle.steps.specs.Steps.{stepAt, stepsFrom, stepping, answerOf, found-follows}
 use Rattle.tableau.specs.declared.finding.Counts.{Counts}
 use Rattle.tableau.specs.declared.finding.WalkRefusal.{WalkRefusal}
-use Rattle.tableau_judge.specs.declared.walk.Stop.{Stop}
-use Rattle.tableau_judge.specs.declared.walk.Advance.{Advance}
-use Rattle.tableau_judge.specs.declared.walk.Walked.{Walked}
+use Rattle.branch_walk.specs.declared.walk.Stop.{Stop}
+use Rattle.branch_walk.specs.declared.walk.Advance.{Advance}
+use Rattle.branch_walk.specs.declared.walk.BranchEnd.{BranchEnd}
 use Rattle.tableau.specs.Run.{run, maxLines, maxWaiting, longest, further, limitsCheck, branches, counted, none}
-use Rattle.tableau.specs.Walked.{same-counts}
+use Rattle.tableau.specs.RunCloses.{same-counts}
 use Rattle.tableau.specs.Judging.{maxSteps, areaNeed, closedBy, clears, areaAfter, walkNumber}
-use Rattle.rules.specs.Conclusions.{sides}
-use Rattle.tableau_judge.specs.Walk.{countClash, countFork, putLines, pushed, advanceOf, Lent, remaining, Leaves, Onto, Concludes, StopSays, Stops, Advances, Bounded, ClosedAt, WalkSays, Walks, finishedIf, finished}
+use Rattle.rules.specs.Sides.{sides}
+use Rattle.branch_walk.specs.Walk.{countClash, countFork, putLines, pushed, advanceOf, Lent, remaining, Leaves, Onto, StepConcludes, StopSays, Stops, Advances, Bounded, ClosedAt, WalkSays, Walks, finishedIf, finished}
 
 -- ---- the counts
 
@@ -193,7 +194,7 @@ module _ {bs : List ℕ} {n : ℕ} {ss : List ℕ} {s : ℕ} where
       }
 
   -- a line more, and another step
-  pub lent-more : {xs : List ℕ} {k len : ℕ} → Lent bs n ss s xs k len → (l : Line) (k′ : ℕ)
+  lent-more : {xs : List ℕ} {k len : ℕ} → Lent bs n ss s xs k len → (l : Line) (k′ : ℕ)
       → Formed bs n l → len < maxLines → k′ ≤ s → Lent bs n ss s (putLine xs len l) k′ (len + 1)
   lent-more {xs} {k} {len} lent l k′ f m left =
       record {
@@ -238,12 +239,12 @@ module _ {bs : List ℕ} {n : ℕ} {ss : List ℕ} {s : ℕ} where
   -- ---- one step
 
   -- nothing is done
-  pub onto-here : {xs : List ℕ} {k len : ℕ} → Lent bs n ss s xs k len → Onto bs n ss s xs k len xs k len
+  onto-here : {xs : List ℕ} {k len : ℕ} → Lent bs n ss s xs k len → Onto bs n ss s xs k len xs k len
   onto-here {len = len} lent =
       record { lent = lent; later = le-refl _; longer = le-refl len; leaves = λ j l. refl; same = λ ws c. refl }
 
   -- one way after another
-  pub onto-then : {xs : List ℕ} {k len : ℕ} {ys : List ℕ} {k′ len′ : ℕ} {zs : List ℕ} {k″ len″ : ℕ}
+  onto-then : {xs : List ℕ} {k len : ℕ} {ys : List ℕ} {k′ len′ : ℕ} {zs : List ℕ} {k″ len″ : ℕ}
       → Onto bs n ss s xs k len ys k′ len′ → Onto bs n ss s ys k′ len′ zs k″ len″ → Onto bs n ss s xs k len zs k″ len″
   onto-then a b =
       record {
@@ -256,7 +257,7 @@ module _ {bs : List ℕ} {n : ℕ} {ss : List ℕ} {s : ℕ} where
 
   -- a step that goes on with one side
   onto-side : {xs : List ℕ} {k len : ℕ} → Lent bs n ss s xs k len → (con : Conclusion) (new : List Line) → sides con ≡ new ∷ []
-      → Concludes bs ss s xs k len con → len + length new ≤ maxLines → Onto bs n ss s xs k len (putLines xs len new) (k + 1) (len + length new)
+      → StepConcludes bs ss s xs k len con → len + length new ≤ maxLines → Onto bs n ss s xs k len (putLines xs len new) (k + 1) (len + length new)
   onto-side {xs} {k} {len} lent con new one h m =
       record {
         lent = lent-lines lent new (k + 1) (formed .0) m (omega (arith, h .0));
@@ -277,7 +278,7 @@ module _ {bs : List ℕ} {n : ℕ} {ss : List ℕ} {s : ℕ} where
 
   -- a step that follows its rule and keeps to 1,024 lines
   pub step-concludes : {xs : List ℕ} {k len : ℕ} → Lent bs n ss s xs k len → (con : Conclusion)
-      → Concludes bs ss s xs k len con → len + longest (sides con) ≤ maxLines
+      → StepConcludes bs ss s xs k len con → len + longest (sides con) ≤ maxLines
       → Advances bs n ss s xs k len (advanceOf k len con) (pushed xs len con)
   step-concludes lent (Conclusion.One l) h m = record { says = onto-side lent (Conclusion.One l) (l ∷ []) refl h m }
   step-concludes lent (Conclusion.Two l o) h m = record { says = onto-side lent (Conclusion.Two l o) (l ∷ o ∷ []) refl h m }
@@ -287,7 +288,7 @@ module _ {bs : List ℕ} {n : ℕ} {ss : List ℕ} {s : ℕ} where
 
   -- a step over the limit, and one that is refused by its rule
   pub step-long : {xs : List ℕ} {k len : ℕ} → Lent bs n ss s xs k len → (con : Conclusion)
-      → Concludes bs ss s xs k len con → maxLines < len + longest (sides con) → {ys : List ℕ}
+      → StepConcludes bs ss s xs k len con → maxLines < len + longest (sides con) → {ys : List ℕ}
       → Advances bs n ss s xs k len (Advance.Stopped (Stop.Refused (WalkRefusal.Lines k))) ys
   step-long {xs} {k} {len} lent con h m =
       record {
@@ -331,13 +332,13 @@ module _ {bs : List ℕ} {n : ℕ} {ss : List ℕ} {s : ℕ} where
 
   -- the straight part is refused
   pub walk-refused : {xs : List ℕ} {k len waiting : ℕ} {c : Counts} {refusal : WalkRefusal} {ys : List ℕ}
-      → Stops bs n ss s xs k len (Stop.Refused refusal) ys → Walks bs ss s xs k len waiting c (Walked.Refused refusal) ys
+      → Stops bs n ss s xs k len (Stop.Refused refusal) ys → Walks bs ss s xs k len waiting c (BranchEnd.Refused refusal) ys
   walk-refused {c = c} h = record { says = λ ws w. h .says ws c }
 
   -- the branch ends with a clash
   pub walk-clash : {xs : List ℕ} {k len waiting : ℕ} {c : Counts} {k′ len′ : ℕ} {ys : List ℕ}
       → Bounded k c → Stops bs n ss s xs k len (Stop.Clash k′ len′) ys
-      → Walks bs ss s xs k len waiting c (Walked.Closed (k′ + 1) (countClash len′ c)) ys
+      → Walks bs ss s xs k len waiting c (BranchEnd.Closed (k′ + 1) (countClash len′ c)) ys
   walk-clash {xs} {k} {len} {waiting} {c} {k′} {len′} {ys} few h =
       let onto = h .says .0 in
       let concludes = h .says .1 in
@@ -363,7 +364,7 @@ module _ {bs : List ℕ} {n : ℕ} {ss : List ℕ} {s : ℕ} where
   -- "24, fork with 64 right sides already waiting"
   pub walk-crowded : {xs : List ℕ} {k len waiting : ℕ} {c : Counts} {k′ len′ : ℕ} {l r : Line}
       {ys : List ℕ} → Stops bs n ss s xs k len (Stop.Fork k′ len′ l r) ys → maxWaiting ≤ waiting
-      → Walks bs ss s xs k len waiting c (Walked.Refused (WalkRefusal.Waiting k′)) ys
+      → Walks bs ss s xs k len waiting c (BranchEnd.Refused (WalkRefusal.Waiting k′)) ys
   walk-crowded {xs} {k} {len} {waiting} {c} {k′} {len′} {l} {r} {ys} h m =
       let onto = h .says .0 in
       let concludes = h .says .1 .0 in
@@ -396,7 +397,7 @@ module _ {bs : List ℕ} {n : ℕ} {ss : List ℕ} {s : ℕ} where
   -- the right side, once the left is closed, is lent the branch with its own line
   pub right-lent : {xs : List ℕ} {k len : ℕ} {k′ len′ : ℕ} {l r : Line} {ys : List ℕ}
       → Stops bs n ss s xs k len (Stop.Fork k′ len′ l r) ys → {waiting : ℕ} {c : Counts} {next : ℕ} {c′ : Counts} {zs : List ℕ}
-      → Walks bs ss s (putLine ys len′ l) (k′ + 1) (len′ + 1) waiting c (Walked.Closed next c′) zs → length zs ≡ length ys
+      → Walks bs ss s (putLine ys len′ l) (k′ + 1) (len′ + 1) waiting c (BranchEnd.Closed next c′) zs → length zs ≡ length ys
       → Lent bs n ss s (putLine zs len′ r) next (len′ + 1)
   right-lent {len′ = len′} {l = l} {r = r} {ys = ys} h {next = next} {zs = zs} left e =
       let lent = h .says .0 .lent in
@@ -423,19 +424,19 @@ module _ {bs : List ℕ} {n : ℕ} {ss : List ℕ} {s : ℕ} where
   -- a refusal on the left side
   pub walk-left-refused : {xs : List ℕ} {k len waiting : ℕ} {c : Counts} {k′ len′ : ℕ} {l r : Line}
       {ys : List ℕ} → Stops bs n ss s xs k len (Stop.Fork k′ len′ l r) ys → waiting < maxWaiting → {refusal : WalkRefusal} {zs : List ℕ}
-      → Walks bs ss s (putLine ys len′ l) (k′ + 1) (len′ + 1) (waiting + 1) (countFork c) (Walked.Refused refusal) zs
-      → Walks bs ss s xs k len waiting c (Walked.Refused refusal) zs
+      → Walks bs ss s (putLine ys len′ l) (k′ + 1) (len′ + 1) (waiting + 1) (countFork c) (BranchEnd.Refused refusal) zs
+      → Walks bs ss s xs k len waiting c (BranchEnd.Refused refusal) zs
   walk-left-refused {c = c} {len′ = len′} {r = r} {ys = ys} h m left =
       record { says = λ ws w. fork-open h c ws (rw w m) ∙ left .says ((linesFrom ys 0 len′ ++ r ∷ []) ∷ ws) (one-waits w) }
 
   -- both sides: what the right side finds is what the branch finds
   pub walk-right : {xs : List ℕ} {k len waiting : ℕ} {c : Counts} {k′ len′ : ℕ} {l r : Line}
       {ys : List ℕ} → Stops bs n ss s xs k len (Stop.Fork k′ len′ l r) ys → waiting < maxWaiting → {next : ℕ} {c′ : Counts} {zs : List ℕ}
-      → Walks bs ss s (putLine ys len′ l) (k′ + 1) (len′ + 1) (waiting + 1) (countFork c) (Walked.Closed next c′) zs
-      → length zs ≡ length ys → {walked : Walked} {us : List ℕ} → Walks bs ss s (putLine zs len′ r) next (len′ + 1) waiting c′ walked us
-      → Walks bs ss s xs k len waiting c walked us
-  walk-right {xs} {k} {len} {waiting} {c} {k′} {len′} {l} {r} {ys} h m {next} {c′} {zs} left e {walked} {us} right =
-      record { says = go walked (right .says) }
+      → Walks bs ss s (putLine ys len′ l) (k′ + 1) (len′ + 1) (waiting + 1) (countFork c) (BranchEnd.Closed next c′) zs
+      → length zs ≡ length ys → {ending : BranchEnd} {us : List ℕ} → Walks bs ss s (putLine zs len′ r) next (len′ + 1) waiting c′ ending us
+      → Walks bs ss s xs k len waiting c ending us
+  walk-right {xs} {k} {len} {waiting} {c} {k′} {len′} {l} {r} {ys} h m {next} {c′} {zs} left e {ending} {us} right =
+      record { says = go ending (right .says) }
     where
       onto : Onto bs n ss s xs k len ys k′ len′
       onto = h .says .0
@@ -457,9 +458,9 @@ module _ {bs : List ℕ} {n : ℕ} {ss : List ℕ} {s : ℕ} where
           fork-open h c ws (rw w m) ∙ closed .answers ((linesFrom ys 0 len′ ++ r ∷ []) ∷ ws) (one-waits w)
           ∙ ap (λ (a : List Line). remaining bs ss s next (a ∷ ws) c′) (sym same)
 
-      go : (walked : Walked) → WalkSays bs ss s (putLine zs len′ r) next (len′ + 1) waiting c′ walked us
-          → WalkSays bs ss s xs k len waiting c walked us
-      go (Walked.Closed last c″) end =
+      go : (ending : BranchEnd) → WalkSays bs ss s (putLine zs len′ r) next (len′ + 1) waiting c′ ending us
+          → WalkSays bs ss s xs k len waiting c ending us
+      go (BranchEnd.Closed last c″) end =
           record {
             later = omega (arith, onto .later, closed .later, end .later);
             steps-left = end .steps-left;
@@ -469,7 +470,7 @@ module _ {bs : List ℕ} {n : ℕ} {ss : List ℕ} {s : ℕ} where
                 side-leaves zs len′ r us (end .leaves) j i′ ∙ before j i′ ∙ onto .leaves j i;
             answers = λ ws w. both ws w ∙ end .answers ws w;
           }
-      go (Walked.Refused refusal) end = λ ws w. both ws w ∙ end ws w
+      go (BranchEnd.Refused refusal) end = λ ws w. both ws w ∙ end ws w
 
 -- ---- the first branch
 
@@ -511,12 +512,12 @@ pub none-bounded : Bounded 0 none
 none-bounded = record { few-clashes = le-refl 0; few-forks = le-refl 0; few-most = omega arith }
 
 -- what is found is what the walk ends with
-pub walk-finishes : {bs : List ℕ} {ss : List ℕ} {s : ℕ} (xs : List ℕ) {walked : Walked} {ys : List ℕ} (l : Line) → 8 ≤ length xs
-    → Walks bs ss s (putLine xs 0 l) 0 1 0 none walked ys
-    → finished s walked ≡ closedBy s (run bs ((l ∷ []) ∷ []) (stepsFrom ss 0 s) 0 none)
+pub walk-finishes : {bs : List ℕ} {ss : List ℕ} {s : ℕ} (xs : List ℕ) {ending : BranchEnd} {ys : List ℕ} (l : Line) → 8 ≤ length xs
+    → Walks bs ss s (putLine xs 0 l) 0 1 0 none ending ys
+    → finished s ending ≡ closedBy s (run bs ((l ∷ []) ∷ []) (stepsFrom ss 0 s) 0 none)
 unfolding linesFrom
-walk-finishes {bs} {ss} {s} xs {walked} {ys} l long h =
-    go walked (h .says) ∙ ap (λ (b : List Line). closedBy s (remaining bs ss s 0 (b ∷ []) none)) (push-line xs 0 l long)
+walk-finishes {bs} {ss} {s} xs {ending} {ys} l long h =
+    go ending (h .says) ∙ ap (λ (b : List Line). closedBy s (remaining bs ss s 0 (b ∷ []) none)) (push-line xs 0 l long)
     ∙ ap (λ (m : ℕ). closedBy s (run bs ((l ∷ []) ∷ []) (stepsFrom ss 0 m) 0 none)) (sub-zero s)
   where
     b : List Line
@@ -526,10 +527,10 @@ walk-finishes {bs} {ss} {s} xs {walked} {ys} l long h =
     ends k c true e le = sym (ap (closedBy s) (run-closed bs ss s k c (ltb-true k s e)))
     ends k c false e le = sym (ap (closedBy s) (run-found bs ss s k c (ltb-false k s e)))
 
-    go : (walked : Walked) → WalkSays bs ss s (putLine xs 0 l) 0 1 0 none walked ys
-        → finished s walked ≡ closedBy s (remaining bs ss s 0 (b ∷ []) none)
-    go (Walked.Closed k c) end = ends k c (ltb k s) refl (end .steps-left) ∙ sym (ap (closedBy s) (end .answers [] refl))
-    go (Walked.Refused refusal) end = sym (ap (closedBy s) (end [] refl))
+    go : (ending : BranchEnd) → WalkSays bs ss s (putLine xs 0 l) 0 1 0 none ending ys
+        → finished s ending ≡ closedBy s (remaining bs ss s 0 (b ∷ []) none)
+    go (BranchEnd.Closed k c) end = ends k c (ltb k s) refl (end .steps-left) ∙ sym (ap (closedBy s) (end .answers [] refl))
+    go (BranchEnd.Refused refusal) end = sym (ap (closedBy s) (end [] refl))
 
 -- "refusals 19 to 26 and closed zero its first 8,192 bytes"
 late : (refusal : WalkRefusal) → clears (walkNumber refusal) ≡ true
@@ -542,10 +543,10 @@ late (WalkRefusal.Waiting k) = refl
 late (WalkRefusal.AllClosed k) = refl
 late (WalkRefusal.StillOpen k) = refl
 
-pub finished-clears : (s : ℕ) (walked : Walked) (xs : List ℕ) → areaAfter (finished s walked) xs ≡ cleared areaNeed xs
-finished-clears s (Walked.Closed k c) xs = go (ltb k s)
+pub finished-clears : (s : ℕ) (ending : BranchEnd) (xs : List ℕ) → areaAfter (finished s ending) xs ≡ cleared areaNeed xs
+finished-clears s (BranchEnd.Closed k c) xs = go (ltb k s)
   where
     go : (t : Bool) → areaAfter (finishedIf t s k c) xs ≡ cleared areaNeed xs
     go true = refl
     go false = refl
-finished-clears s (Walked.Refused refusal) xs = rw (late refusal) refl
+finished-clears s (BranchEnd.Refused refusal) xs = rw (late refusal) refl

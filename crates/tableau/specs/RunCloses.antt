@@ -13,7 +13,7 @@ use borrow.Author.Tests.{ltb-false, le-ltb}
 use Rattle.pattern.specs.Checks.Finding.{Finding, found, refused, onward, thereupon, then-passes, refusesIf-passes, onward-found}
 use Rattle.lines.specs.declared.line.Line.{Line}
 use Rattle.rules.specs.declared.conclusion.Conclusion.{Conclusion}
-use Rattle.rules.specs.Conclusions.{sides}
+use Rattle.rules.specs.Sides.{sides}
 use Rattle.steps.specs.declared.step.Step.{Step}
 use Rattle.steps.specs.Steps.{stepping, Follows, found-follows, follows-found}
 use Rattle.soundness.specs.Shapes.{follows-sides}
@@ -140,7 +140,7 @@ mutual
 -- ---- what closes a branch is run
 
 -- the branches that wait behind a side
-pub waiting-length : (b : List Line) (more waiting : List (List Line)) → length (branches b more ++ waiting) ≡ length waiting + length more
+waiting-length : (b : List Line) (more waiting : List (List Line)) → length (branches b more ++ waiting) ≡ length waiting + length more
 waiting-length b [] waiting = omega arith
 waiting-length b (new ∷ more) waiting = ap suc (waiting-length _ more waiting) ∙ place
   where

@@ -1,11 +1,11 @@
--- `tableau_judge::walk::straight` meets its contract: the steps passed lead on from the first to the one that is next.
+-- `branch_walk::walk::straight` meets its contract: the steps passed lead on from the first to the one that is next.
 -- Assumes nothing.
 use borrow.Author.Needs.{needs}
 use Prim.Native.Nat.{_-_}
-use Rattle.tableau_judge.specs.Walk.{Onto}
-use Rattle.tableau_judge.specs.WalkLaws.{straight-grows, straight-stops, straight-open}
-use Rattle.tableau_judge.proofs.walk.straight.Statement.{statement}
-use Rattle.tableau_judge.proofs.walk.straight.Tie as tie
+use Rattle.branch_walk.specs.Walk.{Onto}
+use Rattle.branch_walk.specs.WalkLaws.{straight-grows, straight-stops, straight-open}
+use Rattle.branch_walk.proofs.walk.straight.Statement.{statement}
+use Rattle.branch_walk.proofs.walk.straight.Tie as tie
 
 abbrev Inv-loop : tie.InvT-loop
 Inv-loop p n steps s area₀ k len i₀ lines₀ area i lines = Onto p n steps s area₀ k len area i lines

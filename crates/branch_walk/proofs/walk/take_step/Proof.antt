@@ -1,13 +1,13 @@
--- `tableau_judge::walk::take_step` meets its contract, by the law for each way out.
+-- `branch_walk::walk::take_step` meets its contract, by the law for each way out.
 -- Assumes nothing.
 use borrow.Author.Needs.{needs}
 use mathlib.Core.Path.{_≡_, sym, ap, _∙_}
 use Rattle.steps.specs.declared.step.Step.{Step}
 use Rattle.lines.specs.Stored.{linesFrom}
 use Rattle.steps.specs.Steps.{stepAt, stepping, answerOf}
-use Rattle.tableau_judge.specs.WalkLaws.{step-concludes, step-long, step-refused}
-use Rattle.tableau_judge.proofs.walk.take_step.Statement.{statement}
-use Rattle.tableau_judge.proofs.walk.take_step.Tie as tie
+use Rattle.branch_walk.specs.WalkLaws.{step-concludes, step-long, step-refused}
+use Rattle.branch_walk.proofs.walk.take_step.Statement.{statement}
+use Rattle.branch_walk.proofs.walk.take_step.Tie as tie
 
 at-requires : tie.Need-at-requires
 at-requires c κs = search needs
@@ -45,8 +45,8 @@ returns c =
     step-long (start .pre .0) _ (start .pre .1, sym (told f) ∙ ap answerOf (c .before .before .before .answer2 .given .1))
     (rw (c .before .added-by .ensures .0) at (c .if1 .taken))
 
-conclude-requires : tie.Need-conclude-requires
-conclude-requires c κs = search needs
+extend-requires : tie.Need-extend-requires
+extend-requires c κs = search needs
 
 same-length-2 : tie.Need-same-length-2
 same-length-2 c = search needs
@@ -67,7 +67,7 @@ returns-3 c =
     let g = i .before .before .before in
     let f = g .before .before in
     let start = f .before .before .before .before .before .before in
-    rw (e .conclude .ensures .0, e .conclude .ensures .1)
+    rw (e .extend .ensures .0, e .extend .ensures .1)
     (step-concludes (start .pre .0) _ (start .pre .1, sym (told f) ∙ ap answerOf (g .answer2 .given .1))
     (rw (i .before .added-by .ensures .0) at (i .if1 .left)))
 
@@ -83,7 +83,7 @@ take-step-spec =
     add-if1
     same-length
     returns
-    conclude-requires
+    extend-requires
     same-length-2
     returns-2
     same-length-3

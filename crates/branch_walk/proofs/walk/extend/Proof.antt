@@ -1,9 +1,9 @@
--- `tableau_judge::walk::conclude` meets its contract: in each arm the conclusion is known.
+-- `branch_walk::walk::extend` meets its contract: in each arm the conclusion is known.
 -- Assumes nothing.
 use borrow.Author.Needs.{needs}
 use mathlib.Core.Path.{refl}
-use Rattle.tableau_judge.proofs.walk.conclude.Statement.{statement}
-use Rattle.tableau_judge.proofs.walk.conclude.Tie as tie
+use Rattle.branch_walk.proofs.walk.extend.Statement.{statement}
+use Rattle.branch_walk.proofs.walk.extend.Tie as tie
 
 enum-known-c : tie.Need-enum-known-c
 enum-known-c c = search needs
@@ -53,8 +53,8 @@ returns-4 c = rw (c .before .c4 .given .1) (refl, refl)
 returns-5 : tie.Need-returns-5
 returns-5 c = rw (c .enum-told .given .1) (refl, refl)
 
-pub conclude-spec : {M : Type 1} → statement M
-conclude-spec =
+pub extend-spec : {M : Type 1} → statement M
+extend-spec =
     tie.close
     (tie.spec
     enum-known-c

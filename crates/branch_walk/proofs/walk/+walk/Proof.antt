@@ -1,21 +1,23 @@
--- `tableau_judge::walk::walk` meets its contract, by the law for each way out; the number of unread steps falls.
+-- `branch_walk::walk::walk` meets its contract, by the law for each way out; the number of unread steps falls.
 -- Assumes nothing.
 use borrow.Author.Needs.{needs}
-use mathlib.Core.Path.{_∙_}
+use mathlib.Core.Path.{_≡_, _∙_}
 use native.Mathlib.Omega.{arith}
-use Rattle.tableau_judge.specs.WalkLaws.{walk-refused, walk-clash, walk-crowded, left-lent, right-lent, fork-bounded, walk-left-refused, walk-right}
+use Rattle.lines.specs.declared.line.Line.{Line}
+use Rattle.lines.specs.Stored.{putLine}
+use Rattle.branch_walk.specs.WalkLaws.{walk-refused, walk-clash, walk-crowded, left-lent, right-lent, fork-bounded, walk-left-refused, walk-right}
 use Prim.Native.Nat.{ℕ, _-_, _<_}
 use borrow.Fn.Kinds.{In}
 use borrow.Fn.PlainCycle.{Measures, is, falls, and}
-use Rattle.tableau_judge.proofs.walk.walk.Reads as walk
-use Rattle.tableau_judge.proofs.walk.walk.Kinds as walk-kinds
-use Rattle.tableau_judge.proofs.walk.+walk.Lts-walk as walk-lts
-use Rattle.lines.proofs.stored.store.Reads as store-reads
-use Rattle.tableau_judge.proofs.walk.straight.Reads as straight-reads
-use Rattle.tableau_judge.proofs.walk.with_clash.Reads as with-clash-reads
-use Rattle.tableau_judge.proofs.walk.with_fork.Reads as with-fork-reads
-use Rattle.tableau_judge.proofs.walk.+walk.{statement}
-use Rattle.tableau_judge.proofs.walk.+walk.Tie.{close}
+use Rattle.branch_walk.proofs.walk.walk.Reads as walk
+use Rattle.branch_walk.proofs.walk.walk.Kinds as walk-kinds
+use Rattle.branch_walk.proofs.walk.+walk.Lts-walk as walk-lts
+use Rattle.lines.proofs.store.Reads as store-reads
+use Rattle.branch_walk.proofs.walk.straight.Reads as straight-reads
+use Rattle.branch_walk.proofs.walk.with_clash.Reads as with-clash-reads
+use Rattle.branch_walk.proofs.walk.with_fork.Reads as with-fork-reads
+use Rattle.branch_walk.proofs.walk.+walk.{statement}
+use Rattle.branch_walk.proofs.walk.+walk.Tie.{close}
 
 abbrev μ-walk : Measures 3 walk-kinds.ps ℕ
 μ-walk κs a = a .1 .1 .1 .0 - a .1 .1 .1 .1 .1 .0
@@ -144,10 +146,13 @@ walk-walk-requires-2 t c κs =
     let stops = rw (f .at2 .given .1) at (f .before .before .before .before .straight .ensures) in
     let closed = c .before .before .before .before .before .before .first2 .given .1 in
     let left = rw (closed, g .before .with-fork .ensures, g .before .before .before .before .store .ensures) at (w .walk .ensures) in
-    let kept = w .walk .kept .1 .1 .1 .1 .0 ∙ g .before .before .before .before .store .kept .0 in (
+    let kept = w .walk .kept .1 .1 .1 .1 .0 ∙ g .before .before .before .before .store .kept .0 in
+    -- the right side's own line is stored behind the lines before the fork
+    let right : Line = f .at2 .given .0 .1 .1 .1 .0 in
+    let stored : _ ≡ putLine _ _ right = c .before .before .before .store2 .ensures in (
       omega (arith, start .pre .0, stops .says .0 .later, left .says .later, left .says .steps-left),
       (
-        rw (c .before .before .before .store2 .ensures) (right-lent stops left kept),
+        rw stored (right-lent stops left kept),
         (start .pre .1 .1 .0, left .says .bounded),
       ),
     )

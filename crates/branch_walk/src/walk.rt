@@ -1,23 +1,34 @@
 // The walk over the branches of a tableau. Line k of the branch that is being checked stands in block k
 // of the area; at a fork nothing is copied, since the lines before it stay where they are and those of
 // a side that is closed are dead.
+use lines::line::HasLine;
 use lines::line::Line;
-use lines::stored::store;
+use lines::store;
+use pattern::types::Name;
+use pattern::types::Sign;
 use rules::conclusion::Conclusion;
 use steps::step::Step;
 use steps::step::StepAnswer;
 use steps::take::take;
+use tableau::finding::Closed;
 use tableau::finding::Counts;
+use tableau::finding::TableauFinding;
+use tableau::finding::TableauRefusal;
 use tableau::finding::WalkRefusal;
+use wire::clear;
 ghost use mathlib.Core.Path.{_≡_};
-ghost use Prim.Native.Nat.{_+_, _≤_, _<_};
-ghost use lib.ListN.{length};
+ghost use mathlib.Core.List.{List};
+ghost use Prim.Native.Nat.{ℕ, _+_, _*_, _≤_, _<_};
+ghost use lib.ListN.{length, replicate};
+ghost use Rattle.wire.specs.Cleared.{cleared};
+ghost use Rattle.pattern.specs.Checks.Finding.{found};
+ghost use Rattle.pattern.specs.File.Reading.{readingOf};
 ghost use Rattle.lines.specs.Stored.{putLine};
-ghost use Rattle.tableau_judge.specs.declared.walk.Advance.{Advance};
-ghost use Rattle.rules.specs.Conclusions.{sides};
+ghost use Rattle.branch_walk.specs.declared.walk.Advance.{Advance};
+ghost use Rattle.rules.specs.Sides.{sides};
 ghost use Rattle.tableau.specs.Run.{longest, maxLines, maxWaiting};
-ghost use Rattle.tableau.specs.Judging.{areaNeed};
-ghost use Rattle.tableau_judge.specs.Walk.{Bounded, Lent, countClash, countFork, advanceOf, pushed, Advances, Stops, Walks};
+ghost use Rattle.tableau.specs.Judging.{maxSteps, areaNeed, areaAfter, findingOf};
+ghost use Rattle.branch_walk.specs.Walk.{Bounded, Lent, countClash, countFork, advanceOf, pushed, Advances, Stops, Walks, finished, stepsFound};
 
 // Document 01's bounds: the lines of a branch, and the right sides that wait.
 const MAX_LINES: u16 = 1024;
@@ -38,9 +49,9 @@ pub enum Advance {
     Stopped(Stop),
 }
 
-// What the walk over a branch finds: it is closed, with the number of the next step and the counts; or
+// How the walk over a branch ends: it is closed, with the number of the next step and the counts; or
 // a refusal.
-pub enum Walked {
+pub enum BranchEnd {
     Closed(u16, Counts),
     Refused(WalkRefusal),
 }
@@ -83,7 +94,7 @@ fn push_two(area: &mut [u8], len: u16, l: Line, m: Line) -> Advance
 }
 
 // Adds the lines of step k's conclusion to a branch of so many lines.
-fn conclude(area: &mut [u8], c: Conclusion, k: u16, len: u16) -> Advance
+fn extend(area: &mut [u8], c: Conclusion, k: u16, len: u16) -> Advance
     requires { ⌜ length (now area) ≡ areaNeed ⌝ }
     requires { ⌜ len + longest (sides c) ≤ maxLines ⌝ }
     ensures advance { λ r. ⌜ r ≡ advanceOf k len c ⌝ }
@@ -114,7 +125,7 @@ fn take_step(p: &[u8], n: u8, steps: &[u8], s: u16, area: &mut [u8], k: u16, len
             if MAX_LINES < len + added_by(c) {
                 return Advance::Stopped(Stop::Refused(WalkRefusal::Lines(k)));
             }
-            conclude(area, c, k, len)
+            extend(area, c, k, len)
         }
     }
 }
@@ -176,7 +187,7 @@ fn with_fork(c: Counts) -> Counts
 
 // Walks over a branch of so many lines, from step k on, with so many right sides waiting: to its clash,
 // or at a fork over the left side and then over the right side. The number of unread steps falls.
-pub fn walk(
+fn walk(
     p: &[u8],
     n: u8,
     steps: &[u8],
@@ -186,29 +197,82 @@ pub fn walk(
     len: u16,
     waiting: u8,
     counts: Counts,
-) -> Walked
+) -> BranchEnd
     requires { ⌜ Lent (now p) n (now steps) s (now area) k len ⌝ }
     requires { ⌜ waiting ≤ maxWaiting ⌝ }
     requires { ⌜ Bounded k counts ⌝ }
     ensures { λ r. ⌜ Walks (now (p .entry)) (now (steps .entry)) s (now (area .entry)) k len waiting counts r (now (area .exit)) ⌝ }
 {
     match straight(p, n, steps, s, area, k, len) {
-        Stop::Refused(refusal) => Walked::Refused(refusal),
-        Stop::Clash(at, lines) => Walked::Closed(at + 1, with_clash(counts, lines)),
+        Stop::Refused(refusal) => BranchEnd::Refused(refusal),
+        Stop::Clash(at, lines) => BranchEnd::Closed(at + 1, with_clash(counts, lines)),
         Stop::Fork(at, lines, left, right) => {
             if MAX_WAITING <= waiting {
-                return Walked::Refused(WalkRefusal::Waiting(at));
+                return BranchEnd::Refused(WalkRefusal::Waiting(at));
             }
             store(area, lines as usize, left);
             let forked = with_fork(counts);
             let first = walk(p, n, steps, s, area, at + 1, lines + 1, waiting + 1, forked);
             match first {
-                Walked::Refused(refusal) => Walked::Refused(refusal),
-                Walked::Closed(next, counted) => {
+                BranchEnd::Refused(refusal) => BranchEnd::Refused(refusal),
+                BranchEnd::Closed(next, counted) => {
                     store(area, lines as usize, right);
                     walk(p, n, steps, s, area, next, lines + 1, waiting, counted)
                 }
             }
         }
     }
+}
+
+// The finding where the walk over the first branch ends so: steps that are left are refused.
+fn finish(end: BranchEnd, s: u16) -> TableauFinding
+    ensures { λ r. ⌜ findingOf r ≡ finished s end ⌝ }
+{
+    match end {
+        BranchEnd::Refused(refusal) => TableauFinding::Refused(TableauRefusal::Walk(refusal)),
+        BranchEnd::Closed(k, counts) => {
+            if k < s {
+                return TableauFinding::Refused(TableauRefusal::Walk(WalkRefusal::AllClosed(k)));
+            }
+            TableauFinding::Closed(Closed {
+                steps: s,
+                clashes: counts.clashes,
+                forks: counts.forks,
+                most: counts.most,
+            })
+        }
+    }
+}
+
+// Checks the s steps of a tableau with this start name, for a pattern of n entries that was read. The
+// area is left zero.
+pub fn check_steps(
+    p: &[u8],
+    n: u8,
+    steps: &[u8],
+    area: &mut [u8],
+    start: Name,
+    s: u16,
+) -> TableauFinding
+    requires { ⌜ readingOf (now p) ≡ found n ⌝ }
+    requires { ⌜ (length (now steps) ≡ 6 * s) × (s ≤ maxSteps) ⌝ }
+    requires { ⌜ length (now area) ≡ areaNeed ⌝ }
+    ensures finding { λ r. ⌜ findingOf r ≡ stepsFound (now (p .entry)) n (now (steps .entry)) start s ⌝ }
+    ensures clears { λ r. ⌜ ((xs : List ℕ) → areaAfter (findingOf r) xs ≡ cleared areaNeed xs) ⌝ }
+    ensures area { λ r. ⌜ now (area .exit) ≡ replicate (length (now (area .entry))) 0 ⌝ }
+{
+    let first = Line::Has(HasLine {
+        sign: Sign::Positive,
+        name: start,
+        node: n - 1,
+    });
+    store(area, 0, first);
+    let none = Counts {
+        clashes: 0,
+        forks: 0,
+        most: 0,
+    };
+    let end = walk(p, n, steps, s, area, 0, 1, 0, none);
+    clear(area);
+    finish(end, s)
 }
