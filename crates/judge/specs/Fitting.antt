@@ -23,16 +23,16 @@ use Rattle.model.specs.Judging as model
 use Rattle.lines.specs.declared.line.Line.{Line}
 use Rattle.rules.specs.declared.conclusion.Conclusion.{Conclusion}
 use Rattle.rules.specs.declared.conclusion.Outcome.{Outcome}
-use Rattle.rules.specs.Conclusions.{sides}
+use Rattle.rules.specs.Sides.{sides}
 use Rattle.steps.specs.declared.step.Step.{Step}
-use Rattle.steps.specs.Steps.{stepsFrom, stepAt, fieldCheck, concluded, stepOutcome, isStale, stepping}
+use Rattle.steps.specs.Steps.{stepsFrom, stepAt, fieldCheck, unlessStale, stepOutcome, isStale, stepping}
 use Rattle.tableau.specs.declared.finding.Counts.{Counts}
 use Rattle.tableau.specs.declared.finding.Closed.{Closed}
 use Rattle.tableau.specs.Run.{run, maxLines, longest, linesCheck, waitingCheck, limitsCheck, branches, counted, none}
 use Rattle.tableau.specs.Counting.{one-at-most, clash-within}
-use Rattle.tableau_judge.specs.Walk.{Bounded}
-use Rattle.tableau_judge.specs.WalkLaws.{none-bounded}
-use Rattle.tableau.specs.Closure as closure
+use Rattle.branch_walk.specs.Walk.{Bounded}
+use Rattle.branch_walk.specs.WalkLaws.{none-bounded}
+use Rattle.tableau.specs.JudgingCloses as closure
 use Rattle.tableau.specs.Judging as tableau
 
 -- the number fits a part of an answer
@@ -191,13 +191,13 @@ abbrev Any : Conclusion → Type 0
 Any c = Unit {0}
 
 module _ (bs : List ℕ) (b : List Line) (k : ℕ) (l : Fits k) where
-  concluded-fits : (o : Outcome) → Fitted Any (concluded bs b k o)
-  concluded-fits (Outcome.Fits c) = unless-fits Any (refusesIf (isStale bs b c) 22 k) c (fault-fits (isStale bs b c) 22 k (lit< tt) l) (λ e. tt)
-  concluded-fits Outcome.Unfit = (lit< tt, l)
+  unless-stale-fits : (o : Outcome) → Fitted Any (unlessStale bs b k o)
+  unless-stale-fits (Outcome.Fits c) = unless-fits Any (refusesIf (isStale bs b c) 22 k) c (fault-fits (isStale bs b c) 22 k (lit< tt) l) (λ e. tt)
+  unless-stale-fits Outcome.Unfit = (lit< tt, l)
 
   step-fits : (s : Step) → Fitted Any (stepping bs b s k)
   unfolding stepping
-  step-fits s = onward-fits Any (fieldCheck b s k) _ (search (fault-then, fault-fits, lit<)) (λ e. concluded-fits (stepOutcome bs b s))
+  step-fits s = onward-fits Any (fieldCheck b s k) _ (search (fault-then, fault-fits, lit<)) (λ e. unless-stale-fits (stepOutcome bs b s))
 
   limits-fit : (waiting : ℕ) (c : Conclusion) → Fitting (limitsCheck b waiting c k)
   limits-fit waiting c = search (fault-then, fault-fits, lit<)
@@ -232,13 +232,13 @@ unfolding tableau.headerCheck
 tableau-header-fits bs ts = search (fault-then, fault-fits, lit<) depth 7
 
 pub tableau-judging-fits : (bs ts : List ℕ) (size : ℕ) → Fitted FitsClosed (tableau.judgingOf bs ts size)
-unfolding tableau.judgingOf tableau.judgingCheck tableau.walked
+unfolding tableau.judgingOf tableau.judgingCheck tableau.runOf
 tableau-judging-fits bs ts size =
     onward-fits FitsClosed (tableau.judgingCheck bs ts size) _
     (begins-fits bs (ltb size tableau.areaNeed) (tableau.headerCheck bs ts) (tableau-header-fits bs ts))
     (λ e. go (omega (arith, closure.checks-pass bs ts size .0 e .2 .steps-limited)))
   where
-    go : Fits (tableau.stepCount ts) → Fitted FitsClosed (tableau.closedBy (tableau.stepCount ts) (tableau.walked bs ts))
+    go : Fits (tableau.stepCount ts) → Fitted FitsClosed (tableau.closedBy (tableau.stepCount ts) (tableau.runOf bs ts))
     go l =
-        closed-fits (tableau.stepCount ts) (tableau.walked bs ts) l
+        closed-fits (tableau.stepCount ts) (tableau.runOf bs ts) l
         (steps-fit bs (tableau.stepBytes ts) ((tableau.startLine bs ts ∷ []) ∷ []) (tableau.stepCount ts) 0 none (omega (arith, l)) none-bounded)

@@ -9,8 +9,9 @@ use Rattle.decision.specs.Judged.{Judged, met, unmet}
 use Rattle.model.specs.Judging as model
 use Rattle.tableau.specs.declared.finding.Closed.{Closed}
 use Rattle.tableau.specs.Judging as tableau
-use Rattle.tableau.specs.Closure.{judging-closes}
-use Rattle.tableau.specs.Soundness.{Excluded, excludes-finite}
+use Rattle.tableau.specs.JudgingCloses.{judging-closes}
+use Rattle.tableau.specs.Soundness.{excludes-finite}
+use Rattle.tableau.specs.Closure.{Excluded}
 use Rattle.judge.specs.Together.{NeverMet, NeverClosed, closed-never-met, met-never-closed}
 
 -- ---- the kinds of an answer

@@ -10,7 +10,7 @@ use Rattle.model_file.specs.Valid.{all-named}
 use Rattle.model.specs.Judging as model
 use Rattle.tableau.specs.declared.finding.Closed.{Closed}
 use Rattle.tableau.specs.Judging as tableau
-use Rattle.tableau.specs.Closure.{judging-closes}
+use Rattle.tableau.specs.JudgingCloses.{judging-closes}
 use Rattle.tableau.specs.Soundness.{excludes-finite}
 
 -- the finding is no refusal, and says that the root holds somewhere

@@ -18,7 +18,7 @@ ghost use Rattle.model.specs.Judging as model-specs;
 ghost use Rattle.tableau.specs.declared.finding.Closed.{Closed};
 ghost use Rattle.tableau.specs.Judging as tableau-specs;
 ghost use Rattle.tableau.specs.Closure.{Closure};
-ghost use Rattle.tableau.specs.Soundness.{Excluded};
+ghost use Rattle.tableau.specs.Closure.{Excluded};
 ghost use Rattle.judge.specs.Together.{NeverMet, NeverClosed};
 ghost use Rattle.judge.specs.Packed as packed-specs;
 ghost use Rattle.judge.specs.Packed.{metKind, closedKind, kindOf, refusedAnswer, readAnswer, modelAnswer, tableauAnswer};

@@ -6,7 +6,8 @@ use lib.ListN.{length}
 use Rattle.pattern.specs.Checks.Finding.{found}
 use Rattle.tableau.specs.declared.finding.Closed.{Closed}
 use Rattle.tableau.specs.Judging.{findingOf}
-use Rattle.tableau.specs.Closure.{Closure, finding-closes}
+use Rattle.tableau.specs.Closure.{Closure}
+use Rattle.tableau.specs.JudgingCloses.{finding-closes}
 use Rattle.tableau.specs.Counting.{clashes-forks, most-lines}
 use Rattle.tableau.specs.Soundness.{excludes-finite}
 use Rattle.judge.specs.Together.{closed-never-met}

@@ -5,7 +5,8 @@ use lib.ListN.{length}
 use Rattle.pattern.specs.Checks.Finding.{Finding, found}
 use Rattle.tableau.specs.declared.finding.Closed.{Closed}
 use Rattle.tableau.specs.Judging.{areaAfter}
-use Rattle.tableau.specs.Closure.{Closure, finding-closes}
+use Rattle.tableau.specs.Closure.{Closure}
+use Rattle.tableau.specs.JudgingCloses.{finding-closes}
 use Rattle.tableau.specs.Counting.{clashes-forks, most-lines}
 use Rattle.judge.specs.Packed.{kindOf, tableauAnswer, closed-excludes, closed-rules-out}
 use Rattle.judge.specs.Unpacked.{unpackTableau, unpack-tableau}
