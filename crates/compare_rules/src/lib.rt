@@ -22,10 +22,10 @@ ghost use mathlib.Core.Path.{_≡_};
 ghost use mathlib.Core.Bool.{_&&_};
 ghost use Rattle.pattern.specs.declared.types.Sign.{Sign};
 ghost use Rattle.pattern.specs.File.Types.{otherOf};
+ghost use Rattle.lines.specs.declared.line.Line.{Line};
 ghost use Rattle.lines.specs.Lines.{compare};
-ghost use Rattle.lines.specs.Parts.{positive, isSame, sameComparison, sameChannel, sameName, opposed, bothAtEnd};
-ghost use Rattle.rules.specs.declared.conclusion.Conclusion.{Conclusion};
-ghost use Rattle.rules.specs.Rules.{when, alikeSides, rule8, rule16, rule20, rule21compare, contrary, rule22, rule23compare};
+ghost use Rattle.lines.specs.Parts.{positive, isSame, sameName, bothAtEnd};
+ghost use Rattle.rules.specs.Rules.{rule8, rule16, chains, rule20, alikeSides, opposedCompare, clashIf, rule21, contrary, rule22, rule23};
 
 // 8. "P a comparison: its two sides exchanged."
 pub fn rule8(l: CompareLine) -> Outcome
@@ -76,7 +76,7 @@ fn meets(l: CompareLine, q: CompareLine) -> bool
 
 // Whether P and Q chain.
 fn chains(l: CompareLine, q: CompareLine) -> bool
-    ensures { λ r. ⌜ r ≡ positive (l .sign) && isSame (l .comparison) && bothAtEnd l && positive (q .sign) && bothAtEnd q && sameName (l .right .name) (q .left .name) && sameChannel (l .channel) (q .channel) ⌝ }
+    ensures { λ r. ⌜ r ≡ chains l q ⌝ }
 {
     let sign = q.sign;
     let channel = l.channel;
@@ -121,7 +121,7 @@ fn alike_sides(l: CompareLine, q: CompareLine) -> bool
 
 // Whether two comparisons are alike but for sign.
 fn opposes(l: CompareLine, q: CompareLine) -> bool
-    ensures { λ r. ⌜ r ≡ opposed (l .sign) (q .sign) && sameComparison (l .comparison) (q .comparison) && alikeSides l q ⌝ }
+    ensures { λ r. ⌜ r ≡ opposedCompare l q ⌝ }
 {
     let sign = l.sign;
     let other = q.sign;
@@ -132,7 +132,7 @@ fn opposes(l: CompareLine, q: CompareLine) -> bool
 
 // 21. "Clash: P and Q alike but for sign."
 pub fn rule21(l: CompareLine, q: Line) -> bool
-    ensures { λ r. ⌜ when r Conclusion.Clash ≡ rule21compare l q ⌝ }
+    ensures { λ r. ⌜ clashIf r ≡ rule21 (Line.Compare l) q ⌝ }
 {
     let CompareView::Of(m) = q.as_compare() else {
         return false;
@@ -142,7 +142,7 @@ pub fn rule21(l: CompareLine, q: Line) -> bool
 
 // Whether P is same and held, Q is differ and held, all else is alike and both paths are at end.
 fn contrary(l: CompareLine, q: CompareLine) -> bool
-    ensures { λ r. ⌜ when r Conclusion.Clash ≡ contrary l q ⌝ }
+    ensures { λ r. ⌜ r ≡ contrary l q ⌝ }
 {
     let sign = l.sign;
     let other = q.sign;
@@ -154,7 +154,7 @@ fn contrary(l: CompareLine, q: CompareLine) -> bool
 
 // 22. "Clash: P same and Q differ hold, all else alike and both paths at end."
 pub fn rule22(l: CompareLine, q: Line) -> bool
-    ensures { λ r. ⌜ when r Conclusion.Clash ≡ rule22 l q ⌝ }
+    ensures { λ r. ⌜ clashIf r ≡ rule22 l q ⌝ }
 {
     let CompareView::Of(m) = q.as_compare() else {
         return false;
@@ -164,7 +164,7 @@ pub fn rule22(l: CompareLine, q: Line) -> bool
 
 // 23 of a comparison. "Clash: P is .. (i, end) differ (i, end) holds."
 pub fn rule23(l: CompareLine) -> bool
-    ensures { λ r. ⌜ when r Conclusion.Clash ≡ rule23compare l ⌝ }
+    ensures { λ r. ⌜ clashIf r ≡ rule23 (Line.Compare l) ⌝ }
 {
     let sign = l.sign;
     let comparison = l.comparison;

@@ -29,14 +29,12 @@ use rules::fit::clash_if;
 use rules::fit::one_if;
 ghost use mathlib.Core.Path.{_≡_};
 ghost use mathlib.Core.Bool.{_&&_};
-ghost use Prim.Native.Nat.{_+_, _*_, _≤_};
-ghost use lib.ListN.{length};
-ghost use lib.Dec.{eqb};
 ghost use Rattle.pattern.specs.File.Table.{sameKind};
+ghost use Rattle.pattern.specs.File.Entries.{HasEntry};
 ghost use Rattle.lines.specs.declared.line.Line.{Line};
-ghost use Rattle.lines.specs.Parts.{positive, negative, sameName, opposed};
+ghost use Rattle.lines.specs.Parts.{positive, negative};
 ghost use Rattle.rules.specs.declared.conclusion.Conclusion.{Conclusion};
-ghost use Rattle.rules.specs.Rules.{when, comparing, rule1, rule2, rule3, rule4, rule5, rule6, rule7, rule21has, ruleAt};
+ghost use Rattle.rules.specs.Rules.{comparing, rule1, rule2, rule3, rule4, rule5, rule6, rule7, clashIf, opposedHas, rule21, ruleAt};
 
 // 1. "P has/lacks not φ: lacks/has φ."
 fn rule1(h: HasLine, e: Entry) -> Outcome
@@ -157,7 +155,7 @@ fn rule7(h: HasLine, e: Entry) -> Outcome
 
 // Whether two has/lacks lines are alike but for sign.
 fn opposes(h: HasLine, q: HasLine) -> bool
-    ensures { λ r. ⌜ r ≡ opposed (h .sign) (q .sign) && sameName (h .name) (q .name) && eqb (h .node) (q .node) ⌝ }
+    ensures { λ r. ⌜ r ≡ opposedHas h q ⌝ }
 {
     let sign = h.sign;
     let other = q.sign;
@@ -168,7 +166,7 @@ fn opposes(h: HasLine, q: HasLine) -> bool
 
 // 21. "Clash: P and Q alike but for sign."
 fn rule21(h: HasLine, q: Line) -> bool
-    ensures { λ r. ⌜ when r Conclusion.Clash ≡ rule21has h q ⌝ }
+    ensures { λ r. ⌜ clashIf r ≡ rule21 (Line.Has h) q ⌝ }
 {
     let HasView::Of(m) = q.as_has() else {
         return false;
@@ -176,11 +174,11 @@ fn rule21(h: HasLine, q: Line) -> bool
     opposes(h, m)
 }
 
-// What the rule of a number concludes where P is a has/lacks line whose node is an entry of the
-// pattern; rules that P doesn't fit conclude nothing.
-pub fn conclude(p: &[u8], rule: u8, h: HasLine, q: Line, argument: u8) -> Outcome
-    requires { ⌜ 10 + 4 * (h .node) ≤ length (now p) ⌝ }
-    ensures { λ r. ⌜ r ≡ ruleAt rule .concludes (now (p .entry)) (Line.Has h) q argument ⌝ }
+// What the rule of a number gives where P is a has/lacks line whose node is an entry of the pattern;
+// rules that P doesn't fit give nothing.
+pub fn outcome(p: &[u8], rule: u8, h: HasLine, q: Line, argument: u8) -> Outcome
+    requires { ⌜ HasEntry (now p) (h .node) ⌝ }
+    ensures { λ r. ⌜ r ≡ ruleAt rule .outcome (now (p .entry)) (Line.Has h) q argument ⌝ }
 {
     let e = Entry::at(p, h.node);
     match rule {

@@ -1,8 +1,7 @@
 // Document 01's rules 17, 18 and 19, of an is/is not line P, and the rules 21 and 23 of such a line.
-mod places;
+mod replaced;
 
-use crate::places::place_is;
-use crate::places::with_place;
+use crate::replaced::replaced;
 use lines::line::IsLine;
 use lines::line::Line;
 use lines::line::compare_line;
@@ -22,13 +21,10 @@ use rules::conclusion::Outcome;
 use rules::fit::clash_if;
 use rules::fit::one_if;
 ghost use mathlib.Core.Path.{_≡_};
-ghost use mathlib.Core.Bool.{_&&_};
 ghost use mathlib.Core.List.{List};
 ghost use Prim.Native.Nat.{ℕ};
 ghost use Rattle.lines.specs.declared.line.Line.{Line};
-ghost use Rattle.lines.specs.Parts.{sameName, opposed};
-ghost use Rattle.rules.specs.declared.conclusion.Conclusion.{Conclusion};
-ghost use Rattle.rules.specs.Rules.{when, rule17, rule18, rule19, rule21is, rule23is, ruleAt};
+ghost use Rattle.rules.specs.Rules.{rule17, rule18, rule19, clashIf, opposedIs, rule21, rule23, ruleAt};
 
 // 17. "P: i is j: j is i."
 fn rule17(l: IsLine) -> Outcome
@@ -66,13 +62,15 @@ fn rule19(l: IsLine, q: Line, argument: u8) -> Outcome
     let sign = l.sign;
     let i = l.first;
     let j = l.second;
-    let fits = is_positive(sign) & place_is(argument, q, i);
-    one_if(fits, with_place(argument, q, j))
+    if is_positive(sign) {
+        return replaced(argument, i, q, j);
+    }
+    Outcome::Unfit
 }
 
 // Whether two is/is not lines are alike but for sign.
 fn opposes(l: IsLine, q: IsLine) -> bool
-    ensures { λ r. ⌜ r ≡ opposed (l .sign) (q .sign) && sameName (l .first) (q .first) && sameName (l .second) (q .second) ⌝ }
+    ensures { λ r. ⌜ r ≡ opposedIs l q ⌝ }
 {
     let sign = l.sign;
     let other = q.sign;
@@ -85,7 +83,7 @@ fn opposes(l: IsLine, q: IsLine) -> bool
 
 // 21. "Clash: P and Q alike but for sign."
 fn rule21(l: IsLine, q: Line) -> bool
-    ensures { λ r. ⌜ when r Conclusion.Clash ≡ rule21is l q ⌝ }
+    ensures { λ r. ⌜ clashIf r ≡ rule21 (Line.Is l) q ⌝ }
 {
     let IsView::Of(m) = q.as_is() else {
         return false;
@@ -95,7 +93,7 @@ fn rule21(l: IsLine, q: Line) -> bool
 
 // 23 of an is/is not line: "Clash: P is "i is not i"".
 fn rule23(l: IsLine) -> bool
-    ensures { λ r. ⌜ when r Conclusion.Clash ≡ rule23is l ⌝ }
+    ensures { λ r. ⌜ clashIf r ≡ rule23 (Line.Is l) ⌝ }
 {
     let sign = l.sign;
     let first = l.first;
@@ -105,8 +103,8 @@ fn rule23(l: IsLine) -> bool
 
 // What the rule of a number concludes where P is an is/is not line, whatever the pattern; rules that P
 // doesn't fit conclude nothing.
-pub fn conclude(rule: u8, l: IsLine, q: Line, argument: u8) -> Outcome
-    ensures { λ r. ⌜ ((bs : List ℕ) → r ≡ ruleAt rule .concludes bs (Line.Is l) q argument) ⌝ }
+pub fn outcome(rule: u8, l: IsLine, q: Line, argument: u8) -> Outcome
+    ensures { λ r. ⌜ ((bs : List ℕ) → r ≡ ruleAt rule .outcome bs (Line.Is l) q argument) ⌝ }
 {
     match rule {
         17 => rule17(l),

@@ -23,16 +23,16 @@ use Rattle.model.specs.Judging as model
 use Rattle.lines.specs.declared.line.Line.{Line}
 use Rattle.rules.specs.declared.conclusion.Conclusion.{Conclusion}
 use Rattle.rules.specs.declared.conclusion.Outcome.{Outcome}
-use Rattle.rules.specs.Conclusions.{sides}
+use Rattle.rules.specs.Sides.{sides}
 use Rattle.steps.specs.declared.step.Step.{Step}
-use Rattle.steps.specs.Steps.{stepsFrom, stepAt, fieldCheck, concluded, stepOutcome, isStale, stepping}
+use Rattle.steps.specs.Steps.{stepsFrom, stepAt, fieldCheck, unlessStale, stepOutcome, isStale, stepping}
 use Rattle.tableau.specs.declared.finding.Counts.{Counts}
 use Rattle.tableau.specs.declared.finding.Closed.{Closed}
 use Rattle.tableau.specs.Run.{run, maxLines, longest, linesCheck, waitingCheck, limitsCheck, branches, counted, none}
 use Rattle.tableau.specs.Counting.{one-at-most, clash-within}
-use Rattle.tableau_judge.specs.Walk.{Bounded}
-use Rattle.tableau_judge.specs.WalkLaws.{none-bounded}
-use Rattle.tableau.specs.Closure as closure
+use Rattle.branch_walk.specs.Walk.{Bounded}
+use Rattle.branch_walk.specs.WalkLaws.{none-bounded}
+use Rattle.tableau.specs.JudgingCloses as closure
 use Rattle.tableau.specs.Judging as tableau
 
 -- the number is one of 14 bits
@@ -191,13 +191,13 @@ abbrev Any : Conclusion → Type 0
 Any c = Unit {0}
 
 module _ (bs : List ℕ) (b : List Line) (k : ℕ) (l : Narrow k) where
-  concluded-narrow : (o : Outcome) → NarrowFinding Any (concluded bs b k o)
-  concluded-narrow (Outcome.Fits c) = unless-narrow Any (refusesIf (isStale bs b c) 22 k) c (fault-narrow (isStale bs b c) 22 k (lit< tt) l) (λ e. tt)
-  concluded-narrow Outcome.Unfit = (lit< tt, l)
+  unless-stale-narrow : (o : Outcome) → NarrowFinding Any (unlessStale bs b k o)
+  unless-stale-narrow (Outcome.Fits c) = unless-narrow Any (refusesIf (isStale bs b c) 22 k) c (fault-narrow (isStale bs b c) 22 k (lit< tt) l) (λ e. tt)
+  unless-stale-narrow Outcome.Unfit = (lit< tt, l)
 
   step-narrow : (s : Step) → NarrowFinding Any (stepping bs b s k)
   unfolding stepping
-  step-narrow s = onward-narrow Any (fieldCheck b s k) _ (search (fault-then, fault-narrow, lit<)) (λ e. concluded-narrow (stepOutcome bs b s))
+  step-narrow s = onward-narrow Any (fieldCheck b s k) _ (search (fault-then, fault-narrow, lit<)) (λ e. unless-stale-narrow (stepOutcome bs b s))
 
   limits-narrow : (waiting : ℕ) (c : Conclusion) → NarrowCheck (limitsCheck b waiting c k)
   limits-narrow waiting c = search (fault-then, fault-narrow, lit<)
@@ -232,13 +232,13 @@ unfolding tableau.headerCheck
 tableau-header-narrow bs ts = search (fault-then, fault-narrow, lit<) depth 7
 
 pub tableau-judging-narrow : (bs ts : List ℕ) (size : ℕ) → NarrowFinding NarrowClosed (tableau.judgingOf bs ts size)
-unfolding tableau.judgingOf tableau.judgingCheck tableau.walked
+unfolding tableau.judgingOf tableau.judgingCheck tableau.runOf
 tableau-judging-narrow bs ts size =
     onward-narrow NarrowClosed (tableau.judgingCheck bs ts size) _
     (begins-narrow bs (ltb size tableau.areaNeed) (tableau.headerCheck bs ts) (tableau-header-narrow bs ts))
     (λ e. go (omega (arith, closure.checks-pass bs ts size .0 e .2 .steps-limited)))
   where
-    go : Narrow (tableau.stepCount ts) → NarrowFinding NarrowClosed (tableau.closedBy (tableau.stepCount ts) (tableau.walked bs ts))
+    go : Narrow (tableau.stepCount ts) → NarrowFinding NarrowClosed (tableau.closedBy (tableau.stepCount ts) (tableau.runOf bs ts))
     go l =
-        closed-narrow (tableau.stepCount ts) (tableau.walked bs ts) l
+        closed-narrow (tableau.stepCount ts) (tableau.runOf bs ts) l
         (steps-narrow bs (tableau.stepBytes ts) ((tableau.startLine bs ts ∷ []) ∷ []) (tableau.stepCount ts) 0 none (omega (arith, l)) none-bounded)

@@ -10,8 +10,7 @@ use Rattle.decision.specs.Judged.{Judged, met, unmet}
 use Rattle.model.specs.Judging as model
 use Rattle.tableau.specs.declared.finding.Closed.{Closed}
 use Rattle.tableau.specs.Judging as tableau
-use Rattle.tableau.specs.Closure.{Closure}
-use Rattle.tableau.specs.Soundness.{Excluded}
+use Rattle.tableau.specs.Closure.{Closure, Excluded}
 
 -- the finding is no refusal, and says that the root holds somewhere
 abbrev pub Met : Finding Judged → Type 0

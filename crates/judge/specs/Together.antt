@@ -11,7 +11,8 @@ use Rattle.model_file.specs.Valid.{all-named}
 use Rattle.model.specs.Judging as model
 use Rattle.tableau.specs.declared.finding.Closed.{Closed}
 use Rattle.tableau.specs.Judging as tableau
-use Rattle.tableau.specs.Closure.{Closure, judging-closes, finding-closes}
+use Rattle.tableau.specs.Closure.{Closure}
+use Rattle.tableau.specs.JudgingCloses.{judging-closes, finding-closes}
 use Rattle.tableau.specs.Counting.{clashes-forks, most-lines}
 use Rattle.tableau.specs.Soundness.{excludes-finite}
 use Rattle.judge.specs.Promises.{Met, IsClosed, NeverMet, NeverClosed, ModelPromise, TableauPromise}

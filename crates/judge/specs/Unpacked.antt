@@ -14,7 +14,7 @@ use Rattle.decision.specs.Judged.{Judged, met, unmet}
 use Rattle.model.specs.Judging as model
 use Rattle.tableau.specs.declared.finding.Closed.{Closed}
 use Rattle.tableau.specs.Judging as tableau
-use Rattle.tableau.specs.Soundness.{Excluded}
+use Rattle.tableau.specs.Closure.{Excluded}
 use Rattle.judge.specs.Promises.{NeverMet, NeverClosed, ModelPromise, TableauPromise}
 use Rattle.judge.specs.Packed.{refusedKind, readKind, metKind, unmetKind, closedKind, answerKind, kind-packed, met-kind, closed-kind}
 use Rattle.judge.specs.Packed.{packed, refusedAnswer, readAnswer, modelAnswer, tableauAnswer}

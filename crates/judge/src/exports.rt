@@ -17,7 +17,7 @@ ghost use Rattle.decision.specs.Judged.{Judged};
 ghost use Rattle.model.specs.Judging as model-specs;
 ghost use Rattle.tableau.specs.declared.finding.Closed.{Closed};
 ghost use Rattle.tableau.specs.Judging as tableau-specs;
-ghost use Rattle.tableau.specs.Soundness.{Excluded};
+ghost use Rattle.tableau.specs.Closure.{Excluded};
 ghost use Rattle.judge.specs.Promises.{NeverMet, NeverClosed, ModelPromise, TableauPromise};
 ghost use Rattle.judge.specs.Packed as packed-specs;
 ghost use Rattle.judge.specs.Packed.{metKind, closedKind, answerKind, refusedAnswer, readAnswer, modelAnswer, tableauAnswer};

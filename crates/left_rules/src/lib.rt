@@ -24,11 +24,12 @@ ghost use mathlib.Core.Path.{_≡_};
 ghost use mathlib.Core.Bool.{_&&_};
 ghost use Rattle.pattern.specs.File.Table.{sameKind};
 ghost use Rattle.lines.specs.declared.line.Line.{Line};
-ghost use Rattle.lines.specs.Lines.{has, leads, side, PathWithin};
+ghost use Rattle.lines.specs.Lines.{has, leads, side};
+ghost use Rattle.lines.specs.Formed.{PathWithin};
 ghost use Rattle.lines.specs.Parts.{positive, negative, withLeft};
 ghost use Rattle.rules.specs.Rules.{rule9, rule10, rule11, rule12, rule13, rule14, rule15, ruleAt};
 ghost use Rattle.rules.specs.Table.{NoneOf};
-ghost use Rattle.left_rules.specs.Fits.{wholeRules};
+ghost use Rattle.left_rules.specs.Listed.{wholeRules};
 
 // The comparison with (k, α) for its left side.
 fn going_from(l: CompareLine, k: Name, path: u8) -> Line
@@ -165,10 +166,10 @@ fn rule15(l: CompareLine, e: Entry, q: Line) -> Outcome
 
 // What the rules 9 to 15 conclude, which go by the left path; at its end they conclude nothing. Any
 // other rule here doesn't fit.
-pub fn conclude(p: &[u8], rule: u8, l: CompareLine, q: Line, argument: u8) -> Outcome
+pub fn outcome(p: &[u8], rule: u8, l: CompareLine, q: Line, argument: u8) -> Outcome
     requires { ⌜ NoneOf rule wholeRules ⌝ }
     requires { ⌜ PathWithin (now p) (l .left .path) ⌝ }
-    ensures { λ r. ⌜ r ≡ ruleAt rule .concludes (now (p .entry)) (Line.Compare l) q argument ⌝ }
+    ensures { λ r. ⌜ r ≡ ruleAt rule .outcome (now (p .entry)) (Line.Compare l) q argument ⌝ }
 {
     let left = l.left;
     if at_end(left) {

@@ -1,7 +1,9 @@
--- In the order of reading; Stored from its laws on and Naming are laws.
+-- In the order of reading. Lines and Parts say what lines are; the rest no promise needs: how the code sees and stores lines, and what
+-- soundness says of them.
 pub mod Lines
-pub mod Views
 pub mod Parts
+pub mod Views
+pub mod Formed
 pub mod Truth
 pub mod Stored
 pub mod Naming

@@ -1,10 +1,9 @@
--- 01's lines, "Lines and steps": how each form is written, which names it has, and what it is for a line to speak of a pattern's entries.
+-- 01's lines, "Lines and steps": how each form is written, which names it has, and which names are fresh on a branch.
 -- Assumes nothing.
 use mathlib.Core.Bool.{Bool, false, not, _||_}
-use mathlib.Core.List.{List, [], _∷_, _++_}
-use mathlib.Core.Logic.{_⊎_}
+use mathlib.Core.List.{List, [], _∷_}
 use mathlib.Core.Path.{_≡_}
-use Prim.Native.Nat.{ℕ, zero, suc, _+_, _*_, _≤_, _<_}
+use Prim.Native.Nat.{ℕ, zero, suc, _<_}
 use native.Mathlib.Nat.{not-suc-le-zero, le-of-suc-le-suc}
 use lib.Dec.{eqb}
 use lib.ListN.{length, getD}
@@ -13,10 +12,7 @@ use Rattle.pattern.specs.declared.types.Axis.{Axis}
 use Rattle.pattern.specs.declared.types.Channel.{Channel}
 use Rattle.pattern.specs.declared.types.Sign.{Sign}
 use Rattle.pattern.specs.declared.types.Comparison.{Comparison}
-use Rattle.pattern.specs.declared.table.Sort.{Sort}
 use Rattle.pattern.specs.Checks.Tests.{or-is-false}
-use Rattle.pattern.specs.File.Table.{endOfPath}
-use Rattle.pattern.specs.File.Reading.{sortAt}
 use Rattle.pattern.specs.Meaning.Names.{usesName}
 use Rattle.lines.specs.declared.line.Line.{Line}
 use Rattle.lines.specs.declared.line.Side.{Side}
@@ -67,41 +63,7 @@ isFresh bs b i = not (usesName bs i || branchHas b i)
 abbrev pub lineOn : List Line → ℕ → Line
 lineOn b k = getD b k (is Sign.Positive (name 0) (name 0))
 
--- a node entry of a pattern of n entries; a path reference
-abbrev pub IsNode : List ℕ → ℕ → ℕ → Type 0
-IsNode bs n k = (k < n) × (sortAt bs k ≡ Sort.Node)
-
-abbrev pub IsPath : List ℕ → ℕ → ℕ → Type 0
-IsPath bs n k = (k ≡ endOfPath) ⊎ ((k < n) × (sortAt bs k ≡ Sort.Path))
-
--- a path reference is the end of path, or the file is long enough for its entry
-abbrev pub PathWithin : List ℕ → ℕ → Type 0
-PathWithin bs k = (k ≡ endOfPath) ⊎ (10 + 4 * k ≤ length bs)
-
--- the entries that a line speaks of are node entries and paths of the pattern
-abbrev pub Formed : List ℕ → ℕ → Line → Type 0
-Formed bs n (Line.Has l) = IsNode bs n (l .node)
-Formed bs n (Line.Is l) = Unit {0}
-Formed bs n (Line.Edge l) = Unit {0}
-Formed bs n (Line.Compare l) = IsPath bs n (l .left .path) × IsPath bs n (l .right .path)
-
--- every line of a branch is formed
-abbrev pub AllFormed : List ℕ → ℕ → List Line → Type 0
-AllFormed bs n [] = Unit {0}
-AllFormed bs n (l ∷ ls) = Formed bs n l × AllFormed bs n ls
-
 -- ---- laws
-module _ (bs : List ℕ) (n : ℕ) where
-  -- each line of a branch that is formed
-  pub formed-at : (b : List Line) → AllFormed bs n b → (j : ℕ) → j < length b → Formed bs n (lineOn b j)
-  formed-at [] f j h = absurd (not-suc-le-zero h)
-  formed-at (l ∷ ls) f zero h = f .0
-  formed-at (l ∷ ls) f (suc j) h = formed-at ls (f .1) j (le-of-suc-le-suc h)
-
-  -- lines added to a branch
-  pub formed-append : (b c : List Line) → AllFormed bs n b → AllFormed bs n c → AllFormed bs n (b ++ c)
-  formed-append [] c f g = g
-  formed-append (l ∷ ls) c f g = (f .0, formed-append ls c (f .1) g)
 
 -- a name that a branch lacks, each line of it lacks
 pub line-lacks : (b : List Line) (i : ℕ) → branchHas b i ≡ false → (j : ℕ) → j < length b → lineHas (lineOn b j) i ≡ false

@@ -16,7 +16,8 @@ use Rattle.pattern.specs.Meaning.Expression.{nodeAt, pathAt}
 use Rattle.pattern.specs.Meaning.Agreement.{HoldsAt, LeadsAt}
 use Rattle.pattern.specs.Meaning.Names.{usesName, Reference, node-coincides, path-coincides}
 use Rattle.lines.specs.declared.line.Line.{Line}
-use Rattle.lines.specs.Lines.{lineHas, branchHas, IsNode, IsPath, Formed, AllFormed}
+use Rattle.lines.specs.Lines.{lineHas, branchHas}
+use Rattle.lines.specs.Formed.{IsNode, IsPath, Formed, AllFormed}
 use Rattle.lines.specs.Truth.{Signed, True, AllTrue}
 
 -- the naming with name i moved to node y

@@ -190,7 +190,7 @@ pub line-on : (xs : List ℕ) (n j : ℕ) → j < n → lineOn (linesFrom xs 0 n
 line-on xs n j h = line-on-from xs 0 n j h ∙ ap (lineAt xs) (zero-add j)
 
 -- one line more
-pub lines-more : (xs : List ℕ) (k n : ℕ) → linesFrom xs k (n + 1) ≡ linesFrom xs k n ++ lineAt xs (k + n) ∷ []
+lines-more : (xs : List ℕ) (k n : ℕ) → linesFrom xs k (n + 1) ≡ linesFrom xs k n ++ lineAt xs (k + n) ∷ []
 unfolding linesFrom
 lines-more xs k n = ap (linesFrom xs k) (add-one n) ∙ go k n
   where

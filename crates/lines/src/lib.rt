@@ -3,5 +3,8 @@
 pub mod fresh;
 pub mod line;
 pub mod parts;
-pub mod stored;
+mod stored;
 pub mod views;
+
+pub use stored::load;
+pub use stored::store;

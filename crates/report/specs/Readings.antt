@@ -174,5 +174,5 @@ I-holds = (always-unmet, files, any)
         go (refuses number place) e = inr (number, (place, judging-refuses patternI ds size number place e))
 
 pub readings-hold : All readings
-unfolding readingOf patternCheck headerCheck entryCheck rootCheck eachField someBelow eachBelow sameBytes judgingOf judgingCheck modelCheck file.headerCheck nameCheck edgeCheck nodeAt nodeWithin pathWithin holdsTest leadsTest judgedBy lowestBelow countBelow leadsIn nodeNamed tableau.judgingOf tableau.judgingCheck tableau.headerCheck tableau.walked run stepping ruleAt stepAt stepsFrom branchHas usesName digitsWithin
+unfolding readingOf patternCheck headerCheck entryCheck rootCheck eachField someBelow eachBelow sameBytes judgingOf judgingCheck modelCheck file.headerCheck nameCheck edgeCheck nodeAt nodeWithin pathWithin holdsTest leadsTest judgedBy lowestBelow countBelow leadsIn nodeNamed tableau.judgingOf tableau.judgingCheck tableau.headerCheck tableau.runOf run stepping ruleAt stepAt stepsFrom branchHas usesName digitsWithin
 readings-hold = (refl, (refl, (refl, (refl, (refl, (refl, (refl, (refl, (I-holds, ((refl, refl, refl, refl), tt))))))))))

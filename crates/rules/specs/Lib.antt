@@ -1,5 +1,5 @@
--- In the order of reading; Table and Fits are laws.
-pub mod Conclusions
+-- In the order of reading; Table and RuleLaws are laws.
+pub mod Sides
 pub mod Rules
 pub mod Table
-pub mod Fits
+pub mod RuleLaws

@@ -1,9 +1,11 @@
--- 01's rules 1 to 23, one equation each, in its order and words: from the lines P and Q and the argument to what the step concludes. h is
+-- 01's rules 1 to 23, one equation each, in its order and words: from the lines P and Q and the argument to what they give. h is
 -- the has/lacks line P and e the entry of its node; l is the comparison or the is/is not line P, and in 9 to 15 e is the entry of its left
 -- path; q is the line Q.
 -- Assumes nothing.
 use mathlib.Core.Bool.{Bool, true, false, not, _&&_}
 use mathlib.Core.List.{List, [], _∷_}
+use mathlib.Core.Logic.{_⊎_}
+use mathlib.Core.Path.{_≡_}
 use Prim.Native.Nat.{ℕ, zero, suc}
 use lib.Dec.{eqb, leb}
 use Rattle.wire.specs.Choice.{pick}
@@ -20,12 +22,7 @@ use Rattle.lines.specs.declared.line.IsLine.{IsLine}
 use Rattle.lines.specs.declared.line.EdgeLine.{EdgeLine}
 use Rattle.lines.specs.declared.line.CompareLine.{CompareLine}
 use Rattle.lines.specs.declared.line.Line.{Line}
-use Rattle.lines.specs.declared.views.HasView.{HasView}
-use Rattle.lines.specs.declared.views.IsView.{IsView}
-use Rattle.lines.specs.declared.views.EdgeView.{EdgeView}
-use Rattle.lines.specs.declared.views.CompareView.{CompareView}
 use Rattle.lines.specs.Lines.{has, is, leads, side, compare, name, axis}
-use Rattle.lines.specs.Views.{hasView, isView, edgeView, compareView}
 use Rattle.lines.specs.Parts.{positive, negative, opposed, isSame, isDiffer, sameComparison, sameChannel, sameName, sameSide, atEnd, bothAtEnd, channelAt, withLeft}
 use Rattle.rules.specs.declared.conclusion.Conclusion.{Conclusion}
 use Rattle.rules.specs.declared.conclusion.Outcome.{Outcome}
@@ -41,22 +38,28 @@ only test o = pick test o Outcome.Unfit
 abbrev pub when : Bool → Conclusion → Outcome
 when test c = only test (Outcome.Fits c)
 
--- the line is of the form that is wanted
-abbrev pub ofHas : (HasLine → Outcome) → HasView → Outcome
-ofHas rule (HasView.Of l) = rule l
-ofHas rule HasView.Other = Outcome.Unfit
+-- the line is a has/lacks line; an is/is not line; a comparison
+abbrev pub onHas : (HasLine → Outcome) → Line → Outcome
+onHas rule (Line.Has l) = rule l
+onHas rule (Line.Is l) = Outcome.Unfit
+onHas rule (Line.Edge l) = Outcome.Unfit
+onHas rule (Line.Compare l) = Outcome.Unfit
 
-abbrev pub ofIs : (IsLine → Outcome) → IsView → Outcome
-ofIs rule (IsView.Of l) = rule l
-ofIs rule IsView.Other = Outcome.Unfit
+abbrev pub onIs : (IsLine → Outcome) → Line → Outcome
+onIs rule (Line.Has l) = Outcome.Unfit
+onIs rule (Line.Is l) = rule l
+onIs rule (Line.Edge l) = Outcome.Unfit
+onIs rule (Line.Compare l) = Outcome.Unfit
 
-abbrev pub ofCompare : (CompareLine → Outcome) → CompareView → Outcome
-ofCompare rule (CompareView.Of l) = rule l
-ofCompare rule CompareView.Other = Outcome.Unfit
+abbrev pub onCompare : (CompareLine → Outcome) → Line → Outcome
+onCompare rule (Line.Has l) = Outcome.Unfit
+onCompare rule (Line.Is l) = Outcome.Unfit
+onCompare rule (Line.Edge l) = Outcome.Unfit
+onCompare rule (Line.Compare l) = rule l
 
 -- "argument a fresh j": a name, which the step then wants fresh. "(name over 127 included)"
 abbrev pub newName : ℕ → (Name → Conclusion) → Outcome
-newName a conclude = when (leb a maxName) (conclude (name a))
+newName a conclusion = when (leb a maxName) (conclusion (name a))
 
 -- the end of an axis line at which one stands, going along the axis or against it, and the end at which one arrives
 abbrev pub nearEnd : Direction → EdgeLine → Name
@@ -68,17 +71,16 @@ farEnd Direction.Along l = l .to
 farEnd Direction.Against l = l .from
 
 -- "Q: that axis leads from i to j"
-abbrev pub arrivalBy : Direction → ℕ → Name → EdgeView → Arrival
-arrivalBy d a i (EdgeView.Of l) =
-    pick (eqb (l .axis .number) a && sameName (nearEnd d l) i) (Arrival.At (farEnd d l)) Arrival.Nowhere
-arrivalBy d a i EdgeView.Other = Arrival.Nowhere
-
 abbrev pub arrival : Line → Direction → ℕ → Name → Arrival
-arrival Q d a i = arrivalBy d a i (edgeView Q)
+arrival (Line.Has l) d a i = Arrival.Nowhere
+arrival (Line.Is l) d a i = Arrival.Nowhere
+arrival (Line.Edge l) d a i =
+    pick (eqb (l .axis .number) a && sameName (nearEnd d l) i) (Arrival.At (farEnd d l)) Arrival.Nowhere
+arrival (Line.Compare l) d a i = Arrival.Nowhere
 
 abbrev pub arriving : Arrival → (Name → Conclusion) → Outcome
-arriving (Arrival.At j) conclude = Outcome.Fits (conclude j)
-arriving Arrival.Nowhere conclude = Outcome.Unfit
+arriving (Arrival.At j) conclusion = Outcome.Fits (conclusion j)
+arriving Arrival.Nowhere conclusion = Outcome.Unfit
 
 -- ---- the rules
 
@@ -209,64 +211,54 @@ abbrev pub rule19 : IsLine → Line → ℕ → Outcome
 rule19 l Q a = only (positive (l .sign)) (replaced a (l .first) Q (l .second))
 
 -- 20. "P: (i, end) same (j, end) holds; Q: (j, end) same or differ (k, end) holds, one channel: (i, end) and (k, end) compare as in Q."
+abbrev pub chains : CompareLine → CompareLine → Bool
+chains l q =
+    positive (l .sign) && isSame (l .comparison) && bothAtEnd l && positive (q .sign) && bothAtEnd q
+    && sameName (l .right .name) (q .left .name) && sameChannel (l .channel) (q .channel)
+
 abbrev pub chained : CompareLine → CompareLine → Outcome
-chained l q =
-    when
-    (positive (l .sign) && isSame (l .comparison) && bothAtEnd l && positive (q .sign) && bothAtEnd q
-    && sameName (l .right .name) (q .left .name) && sameChannel (l .channel) (q .channel))
-    (Conclusion.One (compare Sign.Positive (q .comparison) (l .channel) (l .left) (q .right)))
+chained l q = when (chains l q) (Conclusion.One (compare Sign.Positive (q .comparison) (l .channel) (l .left) (q .right)))
 
 abbrev pub rule20 : CompareLine → Line → Outcome
-rule20 l Q = ofCompare (chained l) (compareView Q)
+rule20 l Q = onCompare (chained l) Q
 
 -- 21. "Clash: P and Q alike but for sign."
+abbrev pub opposedHas : HasLine → HasLine → Bool
+opposedHas l q = opposed (l .sign) (q .sign) && sameName (l .name) (q .name) && eqb (l .node) (q .node)
+
+abbrev pub opposedIs : IsLine → IsLine → Bool
+opposedIs l q = opposed (l .sign) (q .sign) && sameName (l .first) (q .first) && sameName (l .second) (q .second)
+
 abbrev pub alikeSides : CompareLine → CompareLine → Bool
 alikeSides l q = sameChannel (l .channel) (q .channel) && sameSide (l .left) (q .left) && sameSide (l .right) (q .right)
 
-abbrev pub rule21has : HasLine → Line → Outcome
-rule21has l Q =
-    ofHas (λ q. when (opposed (l .sign) (q .sign) && sameName (l .name) (q .name) && eqb (l .node) (q .node)) Conclusion.Clash) (hasView Q)
+abbrev pub opposedCompare : CompareLine → CompareLine → Bool
+opposedCompare l q = opposed (l .sign) (q .sign) && sameComparison (l .comparison) (q .comparison) && alikeSides l q
 
-abbrev pub rule21is : IsLine → Line → Outcome
-rule21is l Q =
-    ofIs (λ q. when (opposed (l .sign) (q .sign) && sameName (l .first) (q .first) && sameName (l .second) (q .second)) Conclusion.Clash)
-    (isView Q)
-
-abbrev pub rule21compare : CompareLine → Line → Outcome
-rule21compare l Q =
-    ofCompare
-    (λ q. when (opposed (l .sign) (q .sign) && sameComparison (l .comparison) (q .comparison) && alikeSides l q) Conclusion.Clash)
-    (compareView Q)
+abbrev pub clashIf : Bool → Outcome
+clashIf test = when test Conclusion.Clash
 
 abbrev pub rule21 : Line → Line → Outcome
-rule21 (Line.Has l) Q = rule21has l Q
-rule21 (Line.Is l) Q = rule21is l Q
+rule21 (Line.Has l) Q = onHas (λ q. clashIf (opposedHas l q)) Q
+rule21 (Line.Is l) Q = onIs (λ q. clashIf (opposedIs l q)) Q
 rule21 (Line.Edge l) Q = Outcome.Unfit
-rule21 (Line.Compare l) Q = rule21compare l Q
+rule21 (Line.Compare l) Q = onCompare (λ q. clashIf (opposedCompare l q)) Q
 
 -- 22. "Clash: P same and Q differ hold, all else alike and both paths at end."
-abbrev pub contrary : CompareLine → CompareLine → Outcome
+abbrev pub contrary : CompareLine → CompareLine → Bool
 contrary l q =
-    when
-    (positive (l .sign) && isSame (l .comparison) && positive (q .sign) && isDiffer (q .comparison) && alikeSides l q && bothAtEnd l)
-    Conclusion.Clash
+    positive (l .sign) && isSame (l .comparison) && positive (q .sign) && isDiffer (q .comparison) && alikeSides l q && bothAtEnd l
 
 abbrev pub rule22 : CompareLine → Line → Outcome
-rule22 l Q = ofCompare (contrary l) (compareView Q)
+rule22 l Q = onCompare (λ q. clashIf (contrary l q)) Q
 
 -- 23. "Clash: P is "i is not i", or (i, end) differ (i, end) holds."
-abbrev pub rule23is : IsLine → Outcome
-rule23is l = when (negative (l .sign) && sameName (l .first) (l .second)) Conclusion.Clash
-
-abbrev pub rule23compare : CompareLine → Outcome
-rule23compare l =
-    when (positive (l .sign) && isDiffer (l .comparison) && bothAtEnd l && sameName (l .left .name) (l .right .name)) Conclusion.Clash
-
 abbrev pub rule23 : Line → Outcome
 rule23 (Line.Has l) = Outcome.Unfit
-rule23 (Line.Is l) = rule23is l
+rule23 (Line.Is l) = clashIf (negative (l .sign) && sameName (l .first) (l .second))
 rule23 (Line.Edge l) = Outcome.Unfit
-rule23 (Line.Compare l) = rule23compare l
+rule23 (Line.Compare l) =
+    clashIf (positive (l .sign) && isDiffer (l .comparison) && bothAtEnd l && sameName (l .left .name) (l .right .name))
 
 -- ---- the table of the rules
 
@@ -277,7 +269,7 @@ pub record Rule : Type 0 where
   pub sideCount : ℕ
   pub usesQ : Bool
   pub usesArgument : Bool
-  pub concludes : List ℕ → Line → Line → ℕ → Outcome
+  pub outcome : List ℕ → Line → Line → ℕ → Outcome
 
 -- the branch goes on with new lines; "forks the branch in two"; "says clash"
 abbrev grows : ℕ
@@ -291,29 +283,22 @@ clashes = 0
 
 -- a rule by its number, its sides and what it uses: what it concludes can go by nothing else
 abbrev ofP : ℕ → ℕ → (List ℕ → Line → Outcome) → Rule
-ofP n s f = record { number = n; sideCount = s; usesQ = false; usesArgument = false; concludes = λ bs P Q a. f bs P }
+ofP n s f = record { number = n; sideCount = s; usesQ = false; usesArgument = false; outcome = λ bs P Q a. f bs P }
 
 abbrev ofPQ : ℕ → ℕ → (List ℕ → Line → Line → Outcome) → Rule
-ofPQ n s f = record { number = n; sideCount = s; usesQ = true; usesArgument = false; concludes = λ bs P Q a. f bs P Q }
+ofPQ n s f = record { number = n; sideCount = s; usesQ = true; usesArgument = false; outcome = λ bs P Q a. f bs P Q }
 
 abbrev ofPArgument : ℕ → ℕ → (List ℕ → Line → ℕ → Outcome) → Rule
-ofPArgument n s f = record { number = n; sideCount = s; usesQ = false; usesArgument = true; concludes = λ bs P Q a. f bs P a }
+ofPArgument n s f = record { number = n; sideCount = s; usesQ = false; usesArgument = true; outcome = λ bs P Q a. f bs P a }
 
 abbrev ofPQArgument : ℕ → ℕ → (List ℕ → Line → Line → ℕ → Outcome) → Rule
-ofPQArgument n s f = record { number = n; sideCount = s; usesQ = true; usesArgument = true; concludes = f }
+ofPQArgument n s f = record { number = n; sideCount = s; usesQ = true; usesArgument = true; outcome = f }
 
 -- P is a has/lacks line; e is the entry of its node
-abbrev pub onHas : (HasLine → Entry → Outcome) → List ℕ → Line → Outcome
-onHas rule bs P = ofHas (λ h. rule h (entryAt bs (h .node))) (hasView P)
+abbrev pub onNode : (HasLine → Entry → Outcome) → List ℕ → Line → Outcome
+onNode rule bs = onHas (λ h. rule h (entryAt bs (h .node)))
 
--- P is an is/is not line; "P is a comparison"
-abbrev pub onIs : (IsLine → Outcome) → Line → Outcome
-onIs rule P = ofIs rule (isView P)
-
-abbrev pub onCompare : (CompareLine → Outcome) → Line → Outcome
-onCompare rule P = ofCompare rule (compareView P)
-
--- the same, and its left path isn't at its end; e is the entry of that path
+-- P is a comparison, and its left path isn't at its end; e is the entry of that path
 abbrev pub onLeftOf : (CompareLine → Entry → Outcome) → List ℕ → CompareLine → Outcome
 onLeftOf rule bs l = only (not (atEnd (l .left))) (rule l (entryAt bs (l .left .path)))
 
@@ -322,13 +307,13 @@ onLeft rule bs = onCompare (onLeftOf rule bs)
 
 abbrev pub rules : List Rule
 rules =
-    ofP 1 grows (onHas rule1)
-    ∷ ofP 2 grows (onHas rule2)
-    ∷ ofP 3 forks (onHas rule3)
-    ∷ ofP 4 grows (onHas rule4)
-    ∷ ofPArgument 5 grows (λ bs P a. onHas (λ h e. rule5 h e a) bs P)
-    ∷ ofPQ 6 grows (λ bs P Q. onHas (λ h e. rule6 h e Q) bs P)
-    ∷ ofP 7 grows (onHas rule7)
+    ofP 1 grows (onNode rule1)
+    ∷ ofP 2 grows (onNode rule2)
+    ∷ ofP 3 forks (onNode rule3)
+    ∷ ofP 4 grows (onNode rule4)
+    ∷ ofPArgument 5 grows (λ bs P a. onNode (λ h e. rule5 h e a) bs P)
+    ∷ ofPQ 6 grows (λ bs P Q. onNode (λ h e. rule6 h e Q) bs P)
+    ∷ ofP 7 grows (onNode rule7)
     ∷ ofP 8 grows (λ bs. onCompare rule8)
     ∷ ofP 9 grows (onLeft rule9)
     ∷ ofP 10 grows (onLeft rule10)
@@ -346,6 +331,12 @@ rules =
     ∷ ofPQ 22 clashes (λ bs P Q. onCompare (λ l. rule22 l Q) P)
     ∷ ofP 23 clashes (λ bs. rule23)
     ∷ []
+
+-- one of a list: of the rules, of the names that a conclusion wants fresh
+infix 4 _∈_
+abbrev pub _∈_ : {A : Type 0} → A → List A → Type 0
+x ∈ [] = ⊥
+x ∈ y ∷ ys = (x ≡ y) ⊎ x ∈ ys
 
 -- what stands for the rule of a number that no rule has, and is asked for nothing but its number; the rules have numbers from 1 on
 abbrev pub unknown : Rule

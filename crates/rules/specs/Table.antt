@@ -1,16 +1,17 @@
 -- Laws about the table of the rules: what holds of each of its rows holds of the rule of every number.
 -- Assumes nothing.
 use mathlib.Core.Path.{_≡_, refl, sym, ap, _∙_, subst}
-use mathlib.Core.Bool.{Bool, true, false, not, _&&_, _||_, or-true}
+use mathlib.Core.Bool.{Bool, true, false, not, _&&_, _||_, or-true, false≢true}
 use mathlib.Core.List.{List, [], _∷_, _++_}
+use mathlib.Core.Logic.{inl, inr}
 use Prim.Native.Nat.{ℕ, suc, _+_, _≤_, _<_}
 use native.Mathlib.Omega.{arith}
-use borrow.Author.Tests.{eqb-true, eqb-false, ne-eqb, le-ltb, lt-ltb, leb-true, leb-false, not-true}
+use borrow.Author.Tests.{eqb-true, eqb-false, eq-eqb, ne-eqb, le-ltb, lt-ltb, leb-true, leb-false, not-true}
 use lib.Dec.{eqb, leb, ltb}
 use lib.ListN.{length}
 use Rattle.wire.specs.Choice.{pick}
 use Rattle.pattern.specs.Checks.Tests.{and-is-true}
-use Rattle.rules.specs.Rules.{Rule, unknown, rules, ruleIn, ruleAt, isUnknown}
+use Rattle.rules.specs.Rules.{Rule, unknown, rules, ruleIn, ruleAt, isUnknown, _∈_}
 
 -- P of the rows of a table of rules, each with its number
 abbrev pub EachOf : (ℕ → Rule → Type 0) → List Rule → Type 0
@@ -61,8 +62,39 @@ known-in (r ∷ rs) j k some h l =
         let apart = eqb-false k (r .number) q in
         rest (omega (arith, l, own, apart)) ∙ ap (ltb k) place
 
+-- the rule of a known number is listed, and has that number
+at-in : (rs : List Rule) (k : ℕ) → isUnknown (ruleIn rs k) ≡ false → (ruleIn rs k ∈ rs) × (ruleIn rs k .number ≡ k)
+at-in [] k h = absurd (false≢true (sym h))
+at-in (r ∷ rs) k h = go (eqb k (r .number)) refl (at-in rs k) h
+  where
+    go : (t : Bool) → eqb k (r .number) ≡ t → (isUnknown (ruleIn rs k) ≡ false → (ruleIn rs k ∈ rs) × (ruleIn rs k .number ≡ k))
+        → isUnknown (pick t r (ruleIn rs k)) ≡ false → (pick t r (ruleIn rs k) ∈ r ∷ rs) × (pick t r (ruleIn rs k) .number ≡ k)
+    go true q rest h = (inl refl, sym (eqb-true k (r .number) q))
+    go false q rest h = let m = rest h in (inr (m .0), m .1)
+
+pub at-listed : (k : ℕ) → isUnknown (ruleAt k) ≡ false → (ruleAt k ∈ rules) × (ruleAt k .number ≡ k)
+unfolding ruleAt
+at-listed k h = at-in rules k h
+
+-- and a listed rule is the one of its number, which isn't 0
+listed-in : (rs : List Rule) (j : ℕ) (r : Rule) → numbered j rs ≡ true → r ∈ rs → (j ≤ r .number) × (ruleIn rs (r .number) ≡ r)
+listed-in [] j r h m = absurd m
+listed-in (x ∷ xs) j r h (inl e) =
+    let own : x .number ≡ j = eqb-true (x .number) j (and-is-true (eqb (x .number) j) (numbered (suc j) xs) h .0) in
+    subst (λ (y : Rule). (j ≤ y .number) × (ruleIn (x ∷ xs) (y .number) ≡ y)) (sym e)
+    (omega (arith, own), rw (eq-eqb (x .number) (x .number) refl) refl)
+listed-in (x ∷ xs) j r h (inr m) =
+    let first = and-is-true (eqb (x .number) j) (numbered (suc j) xs) h in
+    let own : x .number ≡ j = eqb-true (x .number) j (first .0) in
+    let rest = listed-in xs (suc j) r (first .1) m in
+    (omega (arith, rest .0), rw (ne-eqb (r .number) (x .number) (λ e. omega (arith, own, e, rest .0))) (rest .1))
+
+pub listed-at : (r : Rule) → r ∈ rules → (0 < r .number) × (ruleAt (r .number) ≡ r)
+unfolding ruleAt
+listed-at r m = listed-in rules 1 r refl m
+
 -- the numbers from 1 on, up to the number of the rules
-abbrev pub lastRule : ℕ
+abbrev lastRule : ℕ
 lastRule = length rules
 
 pub known-rules : (k : ℕ) → (k ≡ 0 → ⊥) → not (isUnknown (ruleAt k)) ≡ leb k lastRule

@@ -7,9 +7,9 @@ use lines::parts::same_name;
 use lines::views::EdgeView;
 use pattern::types::Name;
 ghost use mathlib.Core.Path.{_≡_};
-ghost use Rattle.lines.specs.declared.views.EdgeView.{EdgeView};
+ghost use Rattle.lines.specs.declared.line.Line.{Line};
 ghost use Rattle.rules.specs.declared.conclusion.Conclusion.{Conclusion};
-ghost use Rattle.rules.specs.Rules.{when, nearEnd, farEnd, arrivalBy, arrival};
+ghost use Rattle.rules.specs.Rules.{when, clashIf, nearEnd, farEnd, arrival};
 
 // One line, where the test passed.
 pub fn one_if(fits: bool, l: Line) -> Outcome
@@ -23,7 +23,7 @@ pub fn one_if(fits: bool, l: Line) -> Outcome
 
 // A clash, where the test passed.
 pub fn clash_if(fits: bool) -> Outcome
-    ensures { λ r. ⌜ r ≡ when fits Conclusion.Clash ⌝ }
+    ensures { λ r. ⌜ r ≡ clashIf fits ⌝ }
 {
     if fits {
         return Outcome::Fits(Conclusion::Clash);
@@ -65,7 +65,7 @@ fn far_end(l: EdgeLine, direction: Direction) -> Name
 
 // Where an axis line leads on an axis from a name: on that axis and from that name alone.
 fn arrive_by(l: EdgeLine, direction: Direction, a: u8, i: Name) -> Arrival
-    ensures { λ r. ⌜ r ≡ arrivalBy direction a i (EdgeView.Of l) ⌝ }
+    ensures { λ r. ⌜ r ≡ arrival (Line.Edge l) direction a i ⌝ }
 {
     let axis = l.axis;
     let near = near_end(l, direction);

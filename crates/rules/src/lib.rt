@@ -2,4 +2,3 @@
 // of rules have in common.
 pub mod conclusion;
 pub mod fit;
-pub mod table;

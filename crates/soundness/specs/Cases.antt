@@ -29,7 +29,7 @@ use Rattle.rules.specs.declared.fit.Direction.{Direction}
 use Rattle.rules.specs.declared.fit.Arrival.{Arrival}
 use Rattle.lines.specs.Lines.{is, side, compare, name}
 use Rattle.lines.specs.Parts.{positive, negative, isSame, isDiffer, sameComparison, sameName, sameChannel, sameSide, atEnd, bothAtEnd, opposed, channelAt}
-use Rattle.rules.specs.Rules.{only, nearEnd, farEnd, alikeSides, newName, arrival, arriving, onHas, onIs, onCompare, onLeftOf, onLeft, replaced, rule16, rule17, rule18, rule19, chained, rule21has, rule21is, rule21compare, contrary, rule23is, rule23compare}
+use Rattle.rules.specs.Rules.{only, nearEnd, farEnd, alikeSides, newName, arrival, arriving, onIs, onCompare, onNode, onLeftOf, onLeft, replaced, rule16, rule17, rule18, rule19, chained, rule21, clashIf, contrary, rule23}
 
 -- ---- what the tests say
 sign-positive : (s : Sign) → positive s ≡ true → s ≡ Sign.Positive
@@ -124,8 +124,8 @@ module _ (C : Outcome → Type 0) (unfit : C Outcome.Unfit) where
       (λ t. let r = and-is-true (sameKind (e .kind) κ) (negative s) t in fits (same-kind (e .kind) κ (r .0)) (sign-negative s (r .1)))
 
   -- "(name over 127 included)"
-  pub new-fits : (a : ℕ) (conclude : Name → Conclusion) → C (Outcome.Fits (conclude (name a))) → C (newName a conclude)
-  new-fits a conclude fits = only-fits (leb a maxName) (Outcome.Fits (conclude (name a))) (λ t. fits)
+  pub new-fits : (a : ℕ) (conclusion : Name → Conclusion) → C (Outcome.Fits (conclusion (name a))) → C (newName a conclusion)
+  new-fits a conclusion fits = only-fits (leb a maxName) (Outcome.Fits (conclusion (name a))) (λ t. fits)
 
   -- ---- the rules 16 to 23, which look at no entry
   pub fits16 : (l : CompareLine)
@@ -180,7 +180,7 @@ module _ (C : Outcome → Type 0) (unfit : C Outcome.Unfit) where
 
   pub fits21has : (l q : HasLine)
       → (q .sign ≡ opposite (l .sign) → l .name .number ≡ q .name .number → l .node ≡ q .node → C (Outcome.Fits Conclusion.Clash))
-      → C (rule21has l (Line.Has q))
+      → C (rule21 (Line.Has l) (Line.Has q))
   fits21has l q fits =
       let a = opposed (l .sign) (q .sign) in
       let b = sameName (l .name) (q .name) in
@@ -193,7 +193,7 @@ module _ (C : Outcome → Type 0) (unfit : C Outcome.Unfit) where
 
   pub fits21is : (l q : IsLine)
       → (q .sign ≡ opposite (l .sign) → l .first .number ≡ q .first .number → l .second .number ≡ q .second .number → C (Outcome.Fits Conclusion.Clash))
-      → C (rule21is l (Line.Is q))
+      → C (rule21 (Line.Is l) (Line.Is q))
   fits21is l q fits =
       let a = opposed (l .sign) (q .sign) in
       let b = sameName (l .first) (q .first) in
@@ -206,7 +206,7 @@ module _ (C : Outcome → Type 0) (unfit : C Outcome.Unfit) where
 
   pub fits21compare : (l q : CompareLine)
       → (q .sign ≡ opposite (l .sign) → l .comparison ≡ q .comparison → AlikeSides l q → C (Outcome.Fits Conclusion.Clash))
-      → C (rule21compare l (Line.Compare q))
+      → C (rule21 (Line.Compare l) (Line.Compare q))
   fits21compare l q fits =
       let a = opposed (l .sign) (q .sign) in
       let b = sameComparison (l .comparison) (q .comparison) in
@@ -218,7 +218,7 @@ module _ (C : Outcome → Type 0) (unfit : C Outcome.Unfit) where
 
   pub fits22 : (l q : CompareLine)
       → (l .sign ≡ Sign.Positive → l .comparison ≡ Comparison.Same → q .sign ≡ Sign.Positive → q .comparison ≡ Comparison.Differ
-      → AlikeSides l q → AtEnds l → C (Outcome.Fits Conclusion.Clash)) → C (contrary l q)
+      → AlikeSides l q → AtEnds l → C (Outcome.Fits Conclusion.Clash)) → C (clashIf (contrary l q))
   fits22 l q fits =
       let a = positive (l .sign) in
       let b = isSame (l .comparison) in
@@ -237,7 +237,7 @@ module _ (C : Outcome → Type 0) (unfit : C Outcome.Unfit) where
       (sides-alike l q (t4 .1))
       (at-ends l (t5 .1)))
 
-  pub fits23is : (l : IsLine) → (l .sign ≡ Sign.Negative → l .first .number ≡ l .second .number → C (Outcome.Fits Conclusion.Clash)) → C (rule23is l)
+  pub fits23is : (l : IsLine) → (l .sign ≡ Sign.Negative → l .first .number ≡ l .second .number → C (Outcome.Fits Conclusion.Clash)) → C (rule23 (Line.Is l))
   fits23is l fits =
       let a = negative (l .sign) in
       let b = sameName (l .first) (l .second) in
@@ -246,7 +246,7 @@ module _ (C : Outcome → Type 0) (unfit : C Outcome.Unfit) where
 
   pub fits23compare : (l : CompareLine)
       → (l .sign ≡ Sign.Positive → l .comparison ≡ Comparison.Differ → AtEnds l → l .left .name .number ≡ l .right .name .number
-      → C (Outcome.Fits Conclusion.Clash)) → C (rule23compare l)
+      → C (Outcome.Fits Conclusion.Clash)) → C (rule23 (Line.Compare l))
   fits23compare l fits =
       let a = positive (l .sign) in
       let b = isDiffer (l .comparison) in
@@ -263,7 +263,7 @@ module _ (C : Outcome → Type 0) (unfit : C Outcome.Unfit) where
 module _ (C : Line → Outcome → Type 0) (unfit : (P : Line) → C P Outcome.Unfit) where
   -- P by its form
   pub has-fits : (bs : List ℕ) (rule : HasLine → Entry → Outcome) → ((h : HasLine) → C (Line.Has h) (rule h (entryAt bs (h .node))))
-      → (P : Line) → C P (onHas rule bs P)
+      → (P : Line) → C P (onNode rule bs P)
   has-fits bs rule fits (Line.Has h) = fits h
   has-fits bs rule fits (Line.Is l) = unfit (Line.Is l)
   has-fits bs rule fits (Line.Edge l) = unfit (Line.Edge l)
@@ -292,18 +292,18 @@ module _ (C : Line → Outcome → Type 0) (unfit : (P : Line) → C P Outcome.U
       (λ t. fits l (eqb-false (l .left .path) endOfPath (not-true _ t))))
 
   -- "Q: that axis leads from i to j"
-  pub arrival-fits : (d : Direction) (a : ℕ) (i : Name) (conclude : Name → Conclusion)
-      → ((l : EdgeLine) → l .axis .number ≡ a → nearEnd d l .number ≡ i .number → C (Line.Edge l) (Outcome.Fits (conclude (farEnd d l))))
-      → (Q : Line) → C Q (arriving (arrival Q d a i) conclude)
-  arrival-fits d a i conclude fits (Line.Has h) = unfit (Line.Has h)
-  arrival-fits d a i conclude fits (Line.Is l) = unfit (Line.Is l)
-  arrival-fits d a i conclude fits (Line.Edge l) =
+  pub arrival-fits : (d : Direction) (a : ℕ) (i : Name) (conclusion : Name → Conclusion)
+      → ((l : EdgeLine) → l .axis .number ≡ a → nearEnd d l .number ≡ i .number → C (Line.Edge l) (Outcome.Fits (conclusion (farEnd d l))))
+      → (Q : Line) → C Q (arriving (arrival Q d a i) conclusion)
+  arrival-fits d a i conclusion fits (Line.Has h) = unfit (Line.Has h)
+  arrival-fits d a i conclusion fits (Line.Is l) = unfit (Line.Is l)
+  arrival-fits d a i conclusion fits (Line.Edge l) =
       go (eqb (l .axis .number) a && sameName (nearEnd d l) i)
       (λ t. let r = and-is-true (eqb (l .axis .number) a) (sameName (nearEnd d l) i) t in
       fits l (eqb-true (l .axis .number) a (r .0)) (eqb-true (nearEnd d l .number) (i .number) (r .1)))
     where
-      go : (test : Bool) → (test ≡ true → C (Line.Edge l) (Outcome.Fits (conclude (farEnd d l))))
-          → C (Line.Edge l) (arriving (pick test (Arrival.At (farEnd d l)) Arrival.Nowhere) conclude)
+      go : (test : Bool) → (test ≡ true → C (Line.Edge l) (Outcome.Fits (conclusion (farEnd d l))))
+          → C (Line.Edge l) (arriving (pick test (Arrival.At (farEnd d l)) Arrival.Nowhere) conclusion)
       go true h = h refl
       go false h = unfit (Line.Edge l)
-  arrival-fits d a i conclude fits (Line.Compare l) = unfit (Line.Compare l)
+  arrival-fits d a i conclusion fits (Line.Compare l) = unfit (Line.Compare l)

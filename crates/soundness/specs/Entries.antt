@@ -15,7 +15,7 @@ use Rattle.pattern.specs.File.Reading.{sortAt}
 use Rattle.pattern.specs.File.Valid.{Valid, Within, EarlierPath, within-at, refers-at}
 use Rattle.pattern.specs.Meaning.Clauses.{NodeMeans, PathMeans}
 use Rattle.pattern.specs.Meaning.Agreement.{HoldsAt, LeadsAt, published}
-use Rattle.lines.specs.Lines.{IsNode, IsPath}
+use Rattle.lines.specs.Formed.{IsNode, IsPath}
 
 -- what entry k refers to, read by the table's row for a kind: node entries and paths of the pattern
 abbrev pub References : List ℕ → ℕ → ℕ → Kind → Type 0

@@ -20,13 +20,14 @@ use Rattle.steps.specs.declared.step.Step.{Step}
 use Rattle.rules.specs.declared.conclusion.Conclusion.{Conclusion}
 use Rattle.rules.specs.declared.conclusion.Outcome.{Outcome}
 use Rattle.rules.specs.declared.fit.Direction.{Direction}
-use Rattle.lines.specs.Lines.{has, leads, side, axis, lineOn, IsNode, Formed, AllFormed, formed-at}
+use Rattle.lines.specs.Lines.{has, leads, side, axis, lineOn}
+use Rattle.lines.specs.Formed.{IsNode, Formed, AllFormed, formed-at}
 use Rattle.lines.specs.Parts.{withLeft}
-use Rattle.rules.specs.Rules.{Rule, ruleAt, comparing, onHas, onIs, onCompare, onLeft, rule1, rule2, rule3, rule4, rule5, rule6, rule7, rule8, rule9, rule10, rule11, rule12, rule13, rule14, rule15, rule16, rule17, rule18, rule19, replaced, replacedFirst, replacedSecond, rule20, chained, rule21, rule21has, rule21is, rule21compare, rule22, contrary, rule23}
+use Rattle.rules.specs.Rules.{Rule, ruleAt, comparing, onIs, onCompare, onNode, onLeft, rule1, rule2, rule3, rule4, rule5, rule6, rule7, rule8, rule9, rule10, rule11, rule12, rule13, rule14, rule15, rule16, rule17, rule18, rule19, replaced, replacedFirst, replacedSecond, rule20, chained, rule21, rule22, clashIf, contrary, rule23}
 use Rattle.soundness.specs.Entries.{References, references-of, on-path}
 use Rattle.soundness.specs.Cases.{Concluded, otherwise-fits, kind-fits, held-fits, barred-fits, new-fits, named-fits, has-fits, is-fits, compare-fits, left-fits, arrival-fits, fits16, fits17, fits18, fits19, fits20, fits21has, fits21is, fits21compare, fits22, fits23is, fits23compare}
-use Rattle.rules.specs.Conclusions.{sides}
-use Rattle.steps.specs.Steps.{Follows, follows-on}
+use Rattle.rules.specs.Sides.{sides}
+use Rattle.steps.specs.Steps.{Follows, follows-fits, follows-on}
 use Rattle.rules.specs.Table.{each-rule, _and_}
 
 -- the lines of every side are formed
@@ -149,7 +150,7 @@ module _ {bs : List ℕ} {n : ℕ} (ok : Valid bs n) where
 
   -- by the form of a line
   by-has : (rule : HasLine → Entry → Outcome) → ((h : HasLine) → From (Line.Has h) (rule h (entryAt bs (h .node)))) → (P : Line)
-      → From P (onHas rule bs P)
+      → From P (onNode rule bs P)
   by-has = has-fits From (λ P f. tt) bs
 
   by-is : (rule : IsLine → Outcome) → ((l : IsLine) → From (Line.Is l) (rule l)) → (P : Line) → From P (onIs rule P)
@@ -170,14 +171,14 @@ module _ {bs : List ℕ} {n : ℕ} (ok : Valid bs n) where
   -- a clash has no line
   formed21 : (P Q : Line) → Shown (rule21 P Q)
   formed21 (Line.Has l) Q =
-      has-fits (λ q. Shown) (λ q. tt) bs (λ q e. rule21has l (Line.Has q)) (λ q. fits21has Shown tt l q (λ s i f. tt)) Q
-  formed21 (Line.Is l) Q = is-fits (λ q. Shown) (λ q. tt) (λ q. rule21is l (Line.Is q)) (λ q. fits21is Shown tt l q (λ s i j. tt)) Q
+      has-fits (λ q. Shown) (λ q. tt) bs (λ q e. rule21 (Line.Has l) (Line.Has q)) (λ q. fits21has Shown tt l q (λ s i f. tt)) Q
+  formed21 (Line.Is l) Q = is-fits (λ q. Shown) (λ q. tt) (λ q. rule21 (Line.Is l) (Line.Is q)) (λ q. fits21is Shown tt l q (λ s i j. tt)) Q
   formed21 (Line.Edge l) Q = tt
   formed21 (Line.Compare l) Q =
-      compare-fits (λ q. Shown) (λ q. tt) (λ q. rule21compare l (Line.Compare q)) (λ q. fits21compare Shown tt l q (λ s c e. tt)) Q
+      compare-fits (λ q. Shown) (λ q. tt) (λ q. rule21 (Line.Compare l) (Line.Compare q)) (λ q. fits21compare Shown tt l q (λ s c e. tt)) Q
 
   formed22 : (l : CompareLine) (Q : Line) → Shown (rule22 l Q)
-  formed22 l Q = compare-fits (λ q. Shown) (λ q. tt) (contrary l) (λ q. fits22 Shown tt l q (λ s c t d e f. tt)) Q
+  formed22 l Q = compare-fits (λ q. Shown) (λ q. tt) (λ q. clashIf (contrary l q)) (λ q. fits22 Shown tt l q (λ s c t d e f. tt)) Q
 
   formed23 : (P : Line) → Shown (rule23 P)
   formed23 (Line.Has l) = tt
@@ -187,7 +188,7 @@ module _ {bs : List ℕ} {n : ℕ} (ok : Valid bs n) where
 
   -- a rule concludes formed lines from such
   abbrev RuleFormed : Rule → Type 0
-  RuleFormed r = (P Q : Line) (a : ℕ) → Formed bs n P → Formed bs n Q → Shown (r .concludes bs P Q a)
+  RuleFormed r = (P Q : Line) (a : ℕ) → Formed bs n P → Formed bs n Q → Shown (r .outcome bs P Q a)
 
   -- every rule of the table
   rule-formed : (k : ℕ) → RuleFormed (ruleAt k)
@@ -223,6 +224,6 @@ module _ {bs : List ℕ} {n : ℕ} (ok : Valid bs n) where
   pub step-formed : (b : List Line) → AllFormed bs n b → (s : Step) (c : Conclusion) → Follows bs b s c → FormedConclusion bs n c
   step-formed b f s c follows =
       let on = follows-on bs b s c follows in
-      subst Shown (follows .fits)
+      subst Shown (follows-fits bs b s c follows)
       (rule-formed (s .rule) (lineOn b (s .p)) (lineOn b (s .q)) (s .argument) (formed-at bs n b f (s .p) (on .0))
       (formed-at bs n b f (s .q) (on .1)))

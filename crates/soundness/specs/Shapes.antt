@@ -18,12 +18,12 @@ use Rattle.rules.specs.declared.conclusion.Conclusion.{Conclusion}
 use Rattle.rules.specs.declared.conclusion.Outcome.{Outcome}
 use Rattle.rules.specs.declared.fit.Direction.{Direction}
 use Rattle.lines.specs.Lines.{name, lineOn}
-use Rattle.rules.specs.Rules.{Rule, ruleAt, only, when, comparing, newName, farEnd, arrival, arriving, replacedFirst, replacedSecond, replaced, onHas, onIs, onCompare, onLeft, rule1, rule2, rule3, rule4, rule5, rule6, rule7, rule8, rule9, rule10, rule11, rule12, rule13, rule14, rule15, rule16, rule17, rule18, rule19, rule20, chained, rule21, rule21has, rule22, contrary, rule23}
+use Rattle.rules.specs.Rules.{Rule, ruleAt, only, when, comparing, newName, farEnd, arrival, arriving, replacedFirst, replacedSecond, replaced, onIs, onCompare, onNode, onLeft, rule1, rule2, rule3, rule4, rule5, rule6, rule7, rule8, rule9, rule10, rule11, rule12, rule13, rule14, rule15, rule16, rule17, rule18, rule19, rule20, chained, rule21, rule22, clashIf, contrary, rule23}
 use Rattle.soundness.specs.Cases.{Concluded, only-fits, otherwise-fits, new-fits, arrival-fits, has-fits, is-fits, compare-fits, left-fits}
-use Rattle.rules.specs.Conclusions.{sides}
+use Rattle.rules.specs.Sides.{sides}
 use Rattle.rules.specs.Table.{each-rule, _and_}
 use Rattle.steps.specs.declared.step.Step.{Step}
-use Rattle.steps.specs.Steps.{Follows}
+use Rattle.steps.specs.Steps.{Follows, follows-fits}
 
 -- what is concluded has so many sides
 pub record Shaped (n : ℕ) (o : Outcome) : Type 0 where
@@ -52,15 +52,15 @@ module _ {n : ℕ} where
   when-shaped : (t : Bool) (o : Outcome) → Shaped n o → Shaped n (only t o)
   when-shaped t o h = only-fits (Shaped n) unfit t o (λ e. h)
 
-  new-name : (a : ℕ) (conclude : Name → Conclusion) → Shaped n (Outcome.Fits (conclude (name a))) → Shaped n (newName a conclude)
-  new-name a conclude h = new-fits (Shaped n) unfit a conclude h
+  new-name : (a : ℕ) (conclusion : Name → Conclusion) → Shaped n (Outcome.Fits (conclusion (name a))) → Shaped n (newName a conclusion)
+  new-name a conclusion h = new-fits (Shaped n) unfit a conclusion h
 
-  arrives : (Q : Line) (d : Direction) (a : ℕ) (i : Name) (conclude : Name → Conclusion)
-      → ((j : Name) → Shaped n (Outcome.Fits (conclude j))) → Shaped n (arriving (arrival Q d a i) conclude)
-  arrives Q d a i conclude shaped = arrival-fits (λ P. Shaped n) (λ P. unfit) d a i conclude (λ l e f. shaped (farEnd d l)) Q
+  arrives : (Q : Line) (d : Direction) (a : ℕ) (i : Name) (conclusion : Name → Conclusion)
+      → ((j : Name) → Shaped n (Outcome.Fits (conclusion j))) → Shaped n (arriving (arrival Q d a i) conclusion)
+  arrives Q d a i conclusion shaped = arrival-fits (λ P. Shaped n) (λ P. unfit) d a i conclusion (λ l e f. shaped (farEnd d l)) Q
 
   on-has : (rule : HasLine → Entry → Outcome) → ((h : HasLine) (e : Entry) → Shaped n (rule h e)) → (bs : List ℕ) (P : Line)
-      → Shaped n (onHas rule bs P)
+      → Shaped n (onNode rule bs P)
   on-has rule shaped bs P = has-fits (λ P. Shaped n) (λ P. unfit) bs rule (λ h. shaped h _) P
 
   on-is : (rule : IsLine → Outcome) → ((l : IsLine) → Shaped n (rule l)) → (P : Line) → Shaped n (onIs rule P)
@@ -99,7 +99,7 @@ replacing (suc zero) i Q j = second-replaced i Q j
 replacing (suc (suc a)) i Q j = unfit
 
 opposes : (P Q : Line) → Shaped 0 (rule21 P Q)
-opposes (Line.Has l) Q = on-has (λ q e. rule21has l (Line.Has q)) (λ q e. search (when-shaped, clash)) [] Q
+opposes (Line.Has l) Q = on-has (λ q e. rule21 (Line.Has l) (Line.Has q)) (λ q e. search (when-shaped, clash)) [] Q
 opposes (Line.Is l) Q = on-is _ (λ q. search (when-shaped, clash)) Q
 opposes (Line.Edge l) Q = unfit
 opposes (Line.Compare l) Q = on-compare _ (λ q. search (when-shaped, clash)) Q
@@ -112,7 +112,7 @@ refutes-itself (Line.Compare l) = search (when-shaped, clash)
 
 -- ---- the table, rule by rule
 abbrev RuleShaped : ℕ → Rule → Type 0
-RuleShaped k r = (bs : List ℕ) (P Q : Line) (a : ℕ) → Shaped (r .sideCount) (r .concludes bs P Q a)
+RuleShaped k r = (bs : List ℕ) (P Q : Line) (a : ℕ) → Shaped (r .sideCount) (r .outcome bs P Q a)
 
 -- what a rule concludes has the sides that the table says
 rule-shaped : (k : ℕ) → RuleShaped k (ruleAt k)
@@ -139,7 +139,7 @@ rule-shaped =
     and (λ bs P Q a. on-is (λ l. rule19 l Q a) (λ l. search (when-shaped, replacing)) P)
     and (λ bs P Q a. on-compare (λ l. rule20 l Q) (λ l. on-compare (chained l) (λ q. search (when-shaped, one)) Q) P)
     and (λ bs P Q a. opposes P Q)
-    and (λ bs P Q a. on-compare (λ l. rule22 l Q) (λ l. on-compare (contrary l) (λ q. search (when-shaped, clash)) Q) P)
+    and (λ bs P Q a. on-compare (λ l. rule22 l Q) (λ l. on-compare (λ q. clashIf (contrary l q)) (λ q. search (when-shaped, clash)) Q) P)
     and (λ bs P Q a. refutes-itself P)
     and tt
     )
@@ -148,5 +148,5 @@ rule-shaped =
 -- so has what a step that follows its rule concludes
 pub follows-sides : (bs : List ℕ) (b : List Line) (s : Step) (c : Conclusion) → Follows bs b s c → length (sides c) ≡ ruleAt (s .rule) .sideCount
 follows-sides bs b s c f =
-    subst (Concluded (λ d. length (sides d) ≡ ruleAt (s .rule) .sideCount)) (f .fits)
+    subst (Concluded (λ d. length (sides d) ≡ ruleAt (s .rule) .sideCount)) (follows-fits bs b s c f)
     (rule-shaped (s .rule) bs (lineOn b (s .p)) (lineOn b (s .q)) (s .argument) .says)

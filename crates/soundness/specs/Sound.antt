@@ -2,13 +2,13 @@
 -- Assumes nothing.
 use mathlib.Core.Path.{_≡_, refl, sym, _∙_, ap, subst}
 use mathlib.Core.Logic.{_⊎_, inl, inr, _↔_}
-use mathlib.Core.Bool.{Bool, true, false, not, false≢true}
+use mathlib.Core.Bool.{Bool, true, false, false≢true}
 use mathlib.Core.List.{List, [], _∷_}
 use Prim.Native.Nat.{ℕ, zero, suc, _≤_, _<_}
 use native.Mathlib.Omega.{arith}
 use lib.Dec.{eqb}
 use lib.ListN.{length}
-use borrow.Author.Tests.{not-false, not-true, ne-eqb}
+use borrow.Author.Tests.{ne-eqb}
 use Rattle.pattern.specs.declared.types.Name.{Name}
 use Rattle.pattern.specs.declared.types.Sign.{Sign}
 use Rattle.pattern.specs.declared.types.Comparison.{Comparison}
@@ -33,16 +33,17 @@ use Rattle.steps.specs.declared.step.Step.{Step}
 use Rattle.rules.specs.declared.conclusion.Conclusion.{Conclusion}
 use Rattle.rules.specs.declared.conclusion.Outcome.{Outcome}
 use Rattle.rules.specs.declared.fit.Direction.{Direction}
-use Rattle.lines.specs.Lines.{has, leads, side, axis, name, lineOn, lineHas, branchHas, isFresh, IsNode, Formed, AllFormed, formed-at, line-lacks}
+use Rattle.lines.specs.Lines.{has, leads, side, axis, name, lineOn, lineHas, branchHas, line-lacks}
+use Rattle.lines.specs.Formed.{IsNode, Formed, AllFormed, formed-at}
 use Rattle.lines.specs.Parts.{withLeft, channelAt}
-use Rattle.rules.specs.Rules.{Rule, ruleAt, comparing, onHas, onIs, onCompare, onLeft, rule1, rule2, rule3, rule4, rule5, rule6, rule7, rule8, rule9, rule10, rule11, rule12, rule13, rule14, rule15, rule16, rule17, rule18, rule19, replaced, replacedFirst, replacedSecond, rule20, chained, rule21, rule21has, rule21is, rule21compare, rule22, contrary, rule23}
+use Rattle.rules.specs.Rules.{Rule, ruleAt, comparing, onIs, onCompare, onNode, onLeft, rule1, rule2, rule3, rule4, rule5, rule6, rule7, rule8, rule9, rule10, rule11, rule12, rule13, rule14, rule15, rule16, rule17, rule18, rule19, replaced, replacedFirst, replacedSecond, rule20, chained, rule21, rule22, clashIf, contrary, rule23, _∈_}
 use Rattle.soundness.specs.Cases.{Concluded, AtEnds, otherwise-fits, kind-fits, held-fits, barred-fits, new-fits, named-fits, has-fits, is-fits, compare-fits, left-fits, arrival-fits, fits16, fits17, fits18, fits19, fits20, fits21has, fits21is, fits21compare, fits22, fits23is, fits23compare}
-use Rattle.steps.specs.Steps.{anyStale, isStale, Follows, follows-on}
+use Rattle.steps.specs.Steps.{Follows, follows-fits, follows-on}
 use Rattle.soundness.specs.Entries.{references-of, first-within, on-path, NodeSays, PathSays, node-says, path-says}
 use Rattle.lines.specs.Truth.{Signed, Compares, True, AllTrue, true-at, held, barred, to-held, to-barred, signed-map, denied, opposites}
 use Rattle.lines.specs.Naming.{renamed, renamed-same, renamed-other, moved-holds, moved-leads, still-true}
 use Rattle.soundness.specs.Comparing.{Ends, Meet, meet-swap, meet-left, meet-alike, to-meet, of-meet, compared-other, compared-on}
-use Rattle.rules.specs.Conclusions.{sides, newNames}
+use Rattle.rules.specs.Sides.{sides, newNames}
 use Rattle.rules.specs.Table.{each-rule, _and_, oneOf}
 
 -- no side's lines are all true
@@ -394,16 +395,16 @@ module _ {bs : List ℕ} {n : ℕ} (ok : Valid bs n) (M : Model) (nom : Naming M
 
   sound21 : (P Q : Line) → True bs M nom P → ShownBy Q (rule21 P Q)
   sound21 (Line.Has l) Q t =
-      has-fits ShownBy (λ q g. tt) bs (λ q e. rule21has l (Line.Has q))
+      has-fits ShownBy (λ q g. tt) bs (λ q e. rule21 (Line.Has l) (Line.Has q))
       (λ q g. fits21has Shown tt l q
       (λ s i φ. clash-sound (opposites (l .sign) (q .sign) s (λ k. HoldsAt M nom bs (φ k) (nom (i k))) t g)))
       Q
   sound21 (Line.Is l) Q t =
-      is-fits ShownBy (λ q g. tt) (λ q. rule21is l (Line.Is q))
+      is-fits ShownBy (λ q g. tt) (λ q. rule21 (Line.Is l) (Line.Is q))
       (λ q g. fits21is Shown tt l q (λ s i j. clash-sound (opposites (l .sign) (q .sign) s (λ k. nom (i k) ≡ nom (j k)) t g))) Q
   sound21 (Line.Edge l) Q t = λ g. tt
   sound21 (Line.Compare l) Q t =
-      compare-fits ShownBy (λ q g. tt) (λ q. rule21compare l (Line.Compare q))
+      compare-fits ShownBy (λ q g. tt) (λ q. rule21 (Line.Compare l) (Line.Compare q))
       (λ q g. fits21compare Shown tt l q
       (λ s same alike. clash-sound (opposites (l .sign) (q .sign) s (meet-alike bs M nom same l q alike) t g)))
       Q
@@ -414,7 +415,7 @@ module _ {bs : List ℕ} {n : ℕ} (ok : Valid bs n) (M : Model) (nom : Naming M
   contrary-ends l ends = of-meet ok M nom Comparison.Differ (channelNumber (l .channel)) (l .left) (l .right) ends
 
   -- rule 22: Q is the comparison q
-  contradiction : (l q : CompareLine) → True bs M nom (Line.Compare l) → True bs M nom (Line.Compare q) → Shown (contrary l q)
+  contradiction : (l q : CompareLine) → True bs M nom (Line.Compare l) → True bs M nom (Line.Compare q) → Shown (clashIf (contrary l q))
   contradiction l q t g =
       let e = channelNumber (l .channel) in
       fits22 Shown tt l q
@@ -424,7 +425,7 @@ module _ {bs : List ℕ} {n : ℕ} (ok : Valid bs n) (M : Model) (nom : Naming M
       (subst (λ (c : Comparison). Meet bs M nom c e (l .left) (l .right)) same (held s t)))))
 
   sound22 : (l : CompareLine) (Q : Line) → True bs M nom (Line.Compare l) → ShownBy Q (rule22 l Q)
-  sound22 l Q t = compare-fits ShownBy (λ q g. tt) (contrary l) (λ q g. contradiction l q t g) Q
+  sound22 l Q t = compare-fits ShownBy (λ q g. tt) (λ q. clashIf (contrary l q)) (λ q g. contradiction l q t g) Q
 
   sound23 : (P : Line) → True bs M nom P → Shown (rule23 P)
   sound23 (Line.Has l) t = tt
@@ -444,7 +445,7 @@ module _ {bs : List ℕ} {n : ℕ} (ok : Valid bs n) (M : Model) (nom : Naming M
 
   -- by the form of P
   by-has : (rule : HasLine → Entry → Outcome) → ((h : HasLine) → SoundFrom (Line.Has h) (rule h (entryAt bs (h .node)))) → (P : Line)
-      → SoundFrom P (onHas rule bs P)
+      → SoundFrom P (onNode rule bs P)
   by-has = has-fits SoundFrom (λ P f t w. tt) bs
 
   by-is : (rule : IsLine → Outcome) → ((l : IsLine) → SoundFrom (Line.Is l) (rule l)) → (P : Line) → SoundFrom P (onIs rule P)
@@ -461,7 +462,7 @@ module _ {bs : List ℕ} {n : ℕ} (ok : Valid bs n) (M : Model) (nom : Naming M
 
   -- a rule is sound: from a formed and true line P, a true line Q, and a name that is fresh for P
   abbrev RuleSound : Rule → Type 0
-  RuleSound r = (P Q : Line) (a : ℕ) → True bs M nom Q → SoundFrom P (r .concludes bs P Q a)
+  RuleSound r = (P Q : Line) (a : ℕ) → True bs M nom Q → SoundFrom P (r .outcome bs P Q a)
 
   -- every rule of the table
   rule-sound : (k : ℕ) → RuleSound (ruleAt k)
@@ -494,39 +495,34 @@ module _ {bs : List ℕ} {n : ℕ} (ok : Valid bs n) (M : Model) (nom : Naming M
       (λ k P Q a g f t w. tt)
 
   -- new names that are fresh for a branch are new to each line of it
-  new-to : (b : List Line) (j : ℕ) → j < length b → (is : List ℕ) → anyStale bs b is ≡ false → NewTo (lineOn b j) is
-  new-to b j l [] w = tt
-  new-to b j l (i ∷ is) w =
-      let r = or-is-false (not (isFresh bs b i)) (anyStale bs b is) w in
-      let apart = or-is-false (usesName bs i) (branchHas b i) (not-true _ (not-false _ (r .0))) in
-      ((apart .0, line-lacks b i (apart .1) j l), new-to b j l is (r .1))
+  new-to : (b : List Line) (j : ℕ) → j < length b → (is : List ℕ)
+      → ((i : ℕ) → i ∈ is → (usesName bs i ≡ false) × (branchHas b i ≡ false)) → NewTo (lineOn b j) is
+  new-to b j l [] fresh = tt
+  new-to b j l (i ∷ is) fresh =
+      let first = fresh i (inl refl) in
+      ((first .0, line-lacks b i (first .1) j l), new-to b j l is (λ k m. fresh k (inr m)))
 
   -- what a step concludes on a branch of formed and true lines is sound
   pub step-sound : (b : List Line) → AllFormed bs n b → AllTrue bs M nom b → (s : Step) (c : Conclusion) → Follows bs b s c → Sound bs M nom c
   step-sound b f t s c follows =
       let on = follows-on bs b s c follows in
-      subst (ShownFor (lineOn b (s .p))) (follows .fits)
+      subst (ShownFor (lineOn b (s .p))) (follows-fits bs b s c follows)
       (rule-sound (s .rule) (lineOn b (s .p)) (lineOn b (s .q)) (s .argument) (true-at bs M nom b t (s .q) (on .1))
       (formed-at bs n b f (s .p) (on .0))
       (true-at bs M nom b t (s .p) (on .0)))
       (new-to b (s .p) (on .0) (newNames c) (follows .fresh))
 
 -- ---- fresh names
-module _ (bs : List ℕ) (b : List Line) where
-  -- where a test passes for no fresh name, it passes for no new name of a conclusion
-  apart-from : (test : ℕ → Bool) → ((i : ℕ) → isFresh bs b i ≡ true → test i ≡ false) → (is : List ℕ) → anyStale bs b is ≡ false
-      → (j : ℕ) → test j ≡ true → oneOf j is ≡ false
-  apart-from test none [] w j h = refl
-  apart-from test none (i ∷ is) w j h =
-      let r = or-is-false (not (isFresh bs b i)) (anyStale bs b is) w in
-      rw (ne-eqb j i (λ e. false≢true (sym (none i (not-false _ (r .0))) ∙ ap test (sym e) ∙ h))) (apart-from test none is (r .1) j h)
 
-  -- the lines of a branch stay true, whatever names that are fresh for it are made to name
-  pub renamed-true : {n : ℕ} → Valid bs n → (M : Model) (nom nom′ : Naming M) (c : Conclusion) → isStale bs b c ≡ false
-      → Renames M c nom nom′ → AllFormed bs n b → AllTrue bs M nom b → AllTrue bs M nom′ b
-  renamed-true ok M nom nom′ c w same f t =
-      still-true ok M nom nom′ (λ j u. same j (apart-from (usesName bs) (λ i h. unused i h .0) (newNames c) w j u)) b f
-      (λ j u. same j (apart-from (branchHas b) (λ i h. unused i h .1) (newNames c) w j u)) t
-    where
-      unused : (i : ℕ) → isFresh bs b i ≡ true → (usesName bs i ≡ false) × (branchHas b i ≡ false)
-      unused i h = or-is-false (usesName bs i) (branchHas b i) (not-true _ h)
+-- where a test passes for none of the names, it passes for no other than those that aren't among them
+apart-from : (test : ℕ → Bool) (is : List ℕ) → ((i : ℕ) → i ∈ is → test i ≡ false) → (j : ℕ) → test j ≡ true → oneOf j is ≡ false
+apart-from test [] none j h = refl
+apart-from test (i ∷ is) none j h =
+    rw (ne-eqb j i (λ e. false≢true (sym (none i (inl refl)) ∙ ap test (sym e) ∙ h))) (apart-from test is (λ k m. none k (inr m)) j h)
+
+-- the lines of a branch stay true, whatever names that are fresh for it are made to name
+pub renamed-true : {bs : List ℕ} {n : ℕ} → Valid bs n → (M : Model) (nom nom′ : Naming M) (b : List Line) (s : Step) (c : Conclusion) → Follows bs b s c
+    → Renames M c nom nom′ → AllFormed bs n b → AllTrue bs M nom b → AllTrue bs M nom′ b
+renamed-true {bs} ok M nom nom′ b s c follows same f t =
+    still-true ok M nom nom′ (λ j u. same j (apart-from (usesName bs) (newNames c) (λ i m. follows .fresh i m .0) j u)) b f
+    (λ j u. same j (apart-from (branchHas b) (newNames c) (λ i m. follows .fresh i m .1) j u)) t

@@ -9,9 +9,10 @@ use lib.ListN.{length}
 use Rattle.pattern.specs.Checks.Finding.{found}
 use Rattle.pattern.specs.File.Reading.{readingOf}
 use Rattle.steps.specs.declared.step.Step.{Step}
-use Rattle.lines.specs.Lines.{Formed}
+use Rattle.lines.specs.Formed.{Formed}
 use Rattle.lines.specs.Stored.{lineAt, linesFrom, length-lines}
-use Rattle.steps.specs.Steps.{fieldFault, p-on, q-on}
+use Rattle.steps.specs.Steps.{fieldFault, placed-on}
+use Rattle.steps.specs.Forms.{LineWithin, formed-within}
 
 -- a pattern's bytes, its number of entries, the bytes of the area, and how many lines the branch has
 pub record Standing (bs : List ℕ) (n : ℕ) (xs : List ℕ) (len : ℕ) : Type 0 where
@@ -20,13 +21,24 @@ pub record Standing (bs : List ℕ) (n : ℕ) (xs : List ℕ) (len : ℕ) : Type
   pub room : 8 * len ≤ length xs
   pub formed : (j : ℕ) → j < len → Formed bs n (lineAt xs j)
 
--- the lines P and Q of a step without fault are on the branch
-pub p-within : (xs : List ℕ) (len : ℕ) (s : Step) → fieldFault (linesFrom xs 0 len) s ≡ false → s .p < len
-p-within xs len s h = rw (length-lines xs 0 len) at (p-on (linesFrom xs 0 len) s h)
+-- the same, as far as a rule needs it to read the entries of its lines: the branch has lines, they are in the area, and their entries in the file
+pub record Readable (bs xs : List ℕ) (len : ℕ) : Type 0 where
+  pub some-line : 0 < len
+  pub room : 8 * len ≤ length xs
+  pub within : (j : ℕ) → j < len → LineWithin bs (lineAt xs j)
 
-pub q-within : (xs : List ℕ) (len : ℕ) (s : Step) → 0 < len → fieldFault (linesFrom xs 0 len) s ≡ false → s .q < len
-q-within xs len s some h = rw (length-lines xs 0 len) at (q-on (linesFrom xs 0 len) s (rw (length-lines xs 0 len) some) h)
+pub readable : {bs xs : List ℕ} {n len : ℕ} → Standing bs n xs len → Readable bs xs len
+readable {bs} {xs} {n} at-step =
+    record {
+      some-line = at-step .some-line;
+      room = at-step .room;
+      within = λ j l. formed-within bs n (at-step .pattern-read) (lineAt xs j) (at-step .formed j l);
+    }
+
+-- the lines P and Q of a step without fault are on the branch
+pub step-on : (bs xs : List ℕ) (len : ℕ) (s : Step) → fieldFault (linesFrom xs 0 len) s ≡ false → (s .p < len) × (s .q < len)
+step-on bs xs len s h = rw (length-lines xs 0 len) at (placed-on bs (linesFrom xs 0 len) s h)
 
 -- each line of the branch is in the area
-pub room-for : {bs xs : List ℕ} {n len k : ℕ} → Standing bs n xs len → k < len → 8 * (k + 1) ≤ length xs
+pub room-for : {bs xs : List ℕ} {len k : ℕ} → Readable bs xs len → k < len → 8 * (k + 1) ≤ length xs
 room-for at-step h = omega (arith, at-step .room, h)

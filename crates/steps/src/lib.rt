@@ -1,5 +1,6 @@
 // Steps of a tableau: their six bytes, what the rule of a step concludes, and the refusals of a step on a
 // branch that go by its rule.
-mod conclude;
+mod outcome;
 pub mod step;
+mod table;
 pub mod take;

@@ -1,15 +1,15 @@
 // A step on a branch: document 01's refusals 19 to 22, in its order, and then what the step concludes.
-use crate::conclude::conclude;
+use crate::outcome::outcome;
 use crate::step::Step;
 use crate::step::StepAnswer;
 use crate::step::StepRefusal;
+use crate::table::is_known;
+use crate::table::uses_argument;
+use crate::table::uses_q;
 use lines::fresh::is_fresh;
-use lines::stored::load;
+use lines::load;
 use rules::conclusion::Conclusion;
 use rules::conclusion::Outcome;
-use rules::table::is_known;
-use rules::table::uses_argument;
-use rules::table::uses_q;
 ghost use mathlib.Core.Path.{_≡_};
 ghost use mathlib.Core.Bool.{false};
 ghost use mathlib.Core.List.{List};
@@ -21,7 +21,7 @@ ghost use Rattle.pattern.specs.File.Reading.{readingOf};
 ghost use Rattle.lines.specs.declared.line.Line.{Line};
 ghost use Rattle.lines.specs.Stored.{linesFrom};
 ghost use Rattle.steps.specs.Steps.{lineFault, argumentFault, fieldFault, stepOutcome, isStale, stepping, answerOf};
-ghost use Rattle.steps.specs.Standing.{Standing};
+ghost use Rattle.steps.specs.Standing.{Standing, Readable};
 
 // Whether a branch of so many lines has a line of the number.
 fn on_branch(len: usize, k: u16) -> bool
@@ -67,14 +67,14 @@ fn field_fault(len: usize, s: Step) -> bool
 
 // What the rule of a step without such a fault makes of its lines and argument. A rule that doesn't use
 // Q is handed line 0.
-fn outcome(p: &[u8], n: u8, area: &[u8], len: usize, s: Step) -> Outcome
-    requires { ⌜ Standing (now p) n (now area) len ⌝ }
+fn step_outcome(p: &[u8], area: &[u8], len: usize, s: Step) -> Outcome
+    requires { ⌜ Readable (now p) (now area) len ⌝ }
     requires { ⌜ fieldFault (linesFrom (now area) 0 len) s ≡ false ⌝ }
     ensures { λ r. ⌜ r ≡ stepOutcome (now (p .entry)) (linesFrom (now (area .entry)) 0 len) s ⌝ }
 {
     let first = load(area, s.p as usize);
     let second = load(area, s.q as usize);
-    conclude(p, n, s.rule, first, second, s.argument)
+    outcome(p, s.rule, first, second, s.argument)
 }
 
 // Refusal 22: whether the conclusion wants a name fresh that isn't.
@@ -103,7 +103,7 @@ pub fn take(p: &[u8], n: u8, area: &[u8], len: usize, s: Step, k: u16) -> StepAn
     if field_fault(len, s) {
         return StepAnswer::Refused(StepRefusal::Field(k));
     }
-    let Outcome::Fits(conclusion) = outcome(p, n, area, len, s) else {
+    let Outcome::Fits(conclusion) = step_outcome(p, area, len, s) else {
         return StepAnswer::Refused(StepRefusal::Fit(k));
     };
     if is_stale(p, n, area, len, conclusion) {

@@ -7,7 +7,7 @@ use lib.Dec.{eqb}
 use lib.ListN.{length}
 use Rattle.lines.specs.declared.line.Line.{Line}
 use Rattle.rules.specs.declared.conclusion.Conclusion.{Conclusion}
-use Rattle.rules.specs.Conclusions.{sides}
+use Rattle.rules.specs.Sides.{sides}
 use Rattle.rules.specs.Rules.{ruleAt}
 use Rattle.steps.specs.declared.step.Step.{Step}
 use Rattle.steps.specs.Steps.{Follows}

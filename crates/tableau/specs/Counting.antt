@@ -12,12 +12,13 @@ use Rattle.steps.specs.declared.step.Step.{Step}
 use Rattle.rules.specs.declared.conclusion.Conclusion.{Conclusion}
 use Rattle.steps.specs.Steps.{stepsFrom}
 use Rattle.tableau.specs.declared.finding.Closed.{Closed}
-use Rattle.rules.specs.Conclusions.{sides}
+use Rattle.rules.specs.Sides.{sides}
 use Rattle.tableau.specs.Run.{longest, oneIf, atClash}
 use Rattle.tableau.specs.Closing.{Closes, CloseEach, step, none, side, mostLines, mostOfEach, saysClash, saysFork, stepsThat}
 use Rattle.tableau.specs.Judging.{stepCount, stepBytes}
-use Rattle.tableau.specs.Walked.{used, usedByEach, counts-as, steps-append}
-use Rattle.tableau.specs.Closure.{Closure, all-used}
+use Rattle.tableau.specs.RunCloses.{used, usedByEach, counts-as, steps-append}
+use Rattle.tableau.specs.Closure.{Closure}
+use Rattle.tableau.specs.JudgingCloses.{all-used}
 
 -- what a test counts, and what a clash does
 pub one-at-most : (t : Bool) → oneIf t ≤ 1

@@ -90,8 +90,8 @@ judgingCheck bs ts size = patternCheck bs then areaCheck size then headerCheck b
 -- ---- the finding
 
 -- the steps of the file, on one branch that has line 0
-unfoldable pub walked : List ℕ → List ℕ → Finding Counts
-walked bs ts = run bs ((startLine bs ts ∷ []) ∷ []) (stepsOf ts) 0 none
+unfoldable pub runOf : List ℕ → List ℕ → Finding Counts
+runOf bs ts = run bs ((startLine bs ts ∷ []) ∷ []) (stepsOf ts) 0 none
 
 -- "closed (steps, clashes, forks, most lines on a branch). Steps is s"
 abbrev pub closedBy : ℕ → Finding Counts → Finding Closed
@@ -100,7 +100,7 @@ closedBy s (refused number place) = refused number place
 
 -- "Judging a tableau gives closed"
 unfoldable pub judgingOf : List ℕ → List ℕ → ℕ → Finding Closed
-judgingOf bs ts size = onward (judgingCheck bs ts size) (closedBy (stepCount ts) (walked bs ts))
+judgingOf bs ts size = onward (judgingCheck bs ts size) (closedBy (stepCount ts) (runOf bs ts))
 
 -- "Refusals 1 to 9 and 15 to 18 leave the area unchanged; refusals 19 to 26 and closed zero its first 8,192 bytes, the rest unchanged."
 abbrev pub clears : ℕ → Bool

@@ -1,8 +1,9 @@
--- In the order of reading; Walked is laws.
+-- In the order of reading: definitions, then what is proved of them.
 pub mod Run
 pub mod Judging
 pub mod Closing
 pub mod Closure
+pub mod JudgingCloses
 pub mod Counting
 pub mod Soundness
-pub mod Walked
+pub mod RunCloses

@@ -9,7 +9,7 @@ use Rattle.wire.specs.Choice.{pick}
 use Rattle.pattern.specs.Checks.Finding.{Finding, found, refused, Check, refusesIf, _then_, onward, thereupon}
 use Rattle.lines.specs.declared.line.Line.{Line}
 use Rattle.rules.specs.declared.conclusion.Conclusion.{Conclusion}
-use Rattle.rules.specs.Conclusions.{sides}
+use Rattle.rules.specs.Sides.{sides}
 use Rattle.steps.specs.declared.step.Step.{Step}
 use Rattle.steps.specs.Steps.{stepping}
 use Rattle.tableau.specs.declared.finding.Counts.{Counts}

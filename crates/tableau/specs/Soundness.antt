@@ -5,13 +5,13 @@ use mathlib.Core.List.{List}
 use Prim.Native.Nat.{ℕ, _-_}
 use native.Mathlib.Omega.{arith}
 use Rattle.pattern.specs.Logic.Semantics.{Model, Naming, Holds}
-use Rattle.pattern.specs.Logic.Finite.{Finite, Named, NodeOf, modelOf, namingOf}
+use Rattle.pattern.specs.Logic.Finite.{modelOf, namingOf}
 use Rattle.pattern.specs.File.Reading.{countOf}
 use Rattle.pattern.specs.File.Valid.{Valid}
 use Rattle.pattern.specs.Meaning.Expression.{rootOf}
 use Rattle.lines.specs.declared.line.Line.{Line}
 use Rattle.steps.specs.declared.step.Step.{Step}
-use Rattle.lines.specs.Lines.{IsNode, AllFormed, formed-append}
+use Rattle.lines.specs.Formed.{IsNode, AllFormed, formed-append}
 use Rattle.lines.specs.Truth.{AllTrue, true-append}
 use Rattle.lines.specs.Naming.{renamed, renamed-same, moved-holds}
 use Rattle.soundness.specs.FormedRules.{EachFormed, step-formed}
@@ -19,7 +19,7 @@ use Rattle.soundness.specs.Sound.{EachRefuted, step-sound, renamed-true}
 use Rattle.tableau.specs.declared.finding.Closed.{Closed}
 use Rattle.tableau.specs.Closing.{Closes, CloseEach, step, none, side}
 use Rattle.tableau.specs.Judging.{startOf}
-use Rattle.tableau.specs.Closure.{Closure}
+use Rattle.tableau.specs.Closure.{Closure, Excluded}
 
 module _ {bs : List ℕ} {n : ℕ} (ok : Valid bs n) (M : Model) where
   -- The lines of a branch that closes aren't all true, in any data model and under any naming. Each side of a step is refuted by itself, and
@@ -30,7 +30,7 @@ module _ {bs : List ℕ} {n : ℕ} (ok : Valid bs n) (M : Model) where
     sound nom (step {b} {s} c f e) formed so =
         step-sound ok M nom b formed so s c f .not-all-refuted
         (λ nom′ renames. each-refuted nom′ e formed (step-formed ok b formed s c f)
-        (renamed-true bs b ok M nom nom′ c (f .fresh) renames formed so))
+        (renamed-true ok M nom nom′ b s c f renames formed so))
 
     each-refuted : (nom : Naming M) {b : List Line} {news : List (List Line)} {ss left : List Step} → CloseEach bs b news ss left
         → AllFormed bs n b → EachFormed bs n news → AllTrue bs M nom b → EachRefuted bs M nom news
@@ -52,10 +52,6 @@ excludes {bs} {ts} closure M nom u holds =
     let starts = moved-holds ok M nom i u (closure .header-valid .start-unused) root node (sym (renamed-same M nom i u)) holds in
     sound ok M (renamed M nom i u) (closure .closes) (node, tt) (starts, tt)
 
--- no finite data model, of any size, has a node where the root holds
-abbrev pub Excluded : List ℕ → Type 0
-Excluded bs = (F : Finite) (ok : Named F) (x : NodeOf F) → Holds (modelOf F) (namingOf F ok) (rootOf bs) x → ⊥
-
--- a closed tableau shows that
+-- a closed tableau shows that no finite data model, of any size, has a node where the root holds
 pub excludes-finite : {bs ts : List ℕ} {size : ℕ} {c : Closed} → Closure bs ts size c → Excluded bs
 excludes-finite closure = λ F ok x. excludes closure (modelOf F) (namingOf F ok) x

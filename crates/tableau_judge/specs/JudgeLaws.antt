@@ -21,9 +21,10 @@ use Rattle.pattern.specs.File.Valid.{read-passes, read-refuses}
 use Rattle.lines.specs.Lines.{name}
 use Rattle.tableau.specs.declared.finding.HeaderRefusal.{HeaderRefusal}
 use Rattle.tableau_judge.specs.declared.header.Header.{Header}
-use Rattle.tableau.specs.Judging.{maxSteps, stepBytes, areaNeed, headerCheck, judgingCheck, walked, judgingOf, clears, headerNumber}
-use Rattle.tableau_judge.specs.Headers.{headerAt, headerOf, stepsFound}
-use Rattle.tableau.specs.Closure.{header-passes, judging-walks, judging-refuses}
+use Rattle.tableau.specs.Judging.{maxSteps, stepBytes, areaNeed, headerCheck, judgingCheck, runOf, judgingOf, clears, headerNumber}
+use Rattle.tableau_judge.specs.Headers.{headerAt, headerOf}
+use Rattle.branch_walk.specs.Walk.{stepsFound}
+use Rattle.tableau.specs.JudgingCloses.{header-passes, judging-runs, judging-refuses}
 
 -- ---- the start name, as its making function answers
 pub start-made : (x : ℕ) (m : NameMade) (i : Name) → nameMade m ≡ make maxName x → m ≡ NameMade.Made i → (ltb maxName x ≡ false) × (i ≡ name x)
@@ -57,12 +58,12 @@ judging-header bs ts size n number place h l e =
     (rw (read-passes bs n h .0, le-ltb size areaNeed l, refused-refuses (headerCheck bs ts) (headerAt ts) number place e) refl)
 
 pub judging-steps : (bs ts : List ℕ) (size n : ℕ) (h : Header) → readingOf bs ≡ found n → areaNeed ≤ size → headerOf bs ts ≡ found h
-    → judgingOf bs ts size ≡ stepsFound bs n (stepBytes ts) h
-unfolding judgingCheck headerOf walked
+    → judgingOf bs ts size ≡ stepsFound bs n (stepBytes ts) (h .start) (h .steps)
+unfolding judgingCheck headerOf runOf
 judging-steps bs ts size n h r l e =
     let p = read-passes bs n r in
     let c = found-passes (headerCheck bs ts) (headerAt ts) h e in
-    judging-walks bs ts size (rw (p .0, le-ltb size areaNeed l, c .0) refl) ∙ rw (sym (c .1), sym (p .1)) refl
+    judging-runs bs ts size (rw (p .0, le-ltb size areaNeed l, c .0) refl) ∙ rw (sym (c .1), sym (p .1)) refl
 
 -- a header that isn't refused says how long the file is, and so how long the part from byte 8 on
 pub steps-there : (bs ts : List ℕ) (h : Header) → headerOf bs ts ≡ found h

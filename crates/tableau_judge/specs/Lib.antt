@@ -1,5 +1,3 @@
--- What the functions of the walk promise, and laws.
+-- The header as the code reads it, and laws.
 pub mod Headers
-pub mod Walk
-pub mod WalkLaws
 pub mod JudgeLaws

@@ -1,4 +1,3 @@
-// Judging a tableau: its header, the walk over its branches, and the refusals of document 01 in its order.
+// Judging a tableau: its header, and the refusals of document 01 in its order.
 mod header;
 pub mod judge;
-mod walk;

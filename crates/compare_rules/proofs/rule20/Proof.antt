@@ -1,6 +1,7 @@
 -- `compare_rules::rule20` meets its contract.
 -- Assumes nothing.
-use mathlib.Core.Path.{sym, _∙_}
+use mathlib.Core.Path.{refl, sym, _∙_}
+use Rattle.rules.specs.RuleLaws.{seen-compare}
 use borrow.Author.Needs.{needs}
 use Rattle.compare_rules.proofs.rule20.Statement.{statement}
 use Rattle.compare_rules.proofs.rule20.Tie as tie
@@ -15,7 +16,7 @@ enum-told : tie.Need-enum-told
 enum-told c = search needs
 
 returns : tie.Need-returns
-returns c = search needs
+returns c = rw (seen-compare, sym (c .before .before .as-compare .ensures), c .enum-told .given .1) refl
 
 chains-requires : tie.Need-chains-requires
 chains-requires c κs = search needs
@@ -30,6 +31,7 @@ returns-2 : tie.Need-returns-2
 returns-2 c =
     let s = c .before .before .before .before in
     rw (
+      seen-compare,
       c .one-if .ensures,
       c .before .chain .ensures,
       c .before .before .chains .ensures,

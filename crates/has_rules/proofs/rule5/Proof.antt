@@ -8,7 +8,7 @@ use Rattle.pattern.specs.File.Table.{sameKind}
 use Rattle.lines.specs.Lines.{has, leads, axis}
 use Rattle.lines.specs.Parts.{positive}
 use Rattle.rules.specs.declared.conclusion.Conclusion.{Conclusion}
-use Rattle.rules.specs.Fits.{new-name, no-name}
+use Rattle.rules.specs.RuleLaws.{new-name, no-name}
 use borrow.Author.Needs.{needs}
 use Rattle.has_rules.proofs.rule5.Statement.{statement}
 use Rattle.has_rules.proofs.rule5.Tie as tie

@@ -9,7 +9,7 @@ use Rattle.lines.specs.Parts.{negative}
 use Rattle.rules.specs.declared.conclusion.Conclusion.{Conclusion}
 use Rattle.rules.specs.declared.fit.Direction.{Direction}
 use Rattle.rules.specs.Rules.{arrival}
-use Rattle.rules.specs.Fits.{arrived, not-arrived}
+use Rattle.rules.specs.RuleLaws.{arrived, not-arrived}
 use borrow.Author.Needs.{needs}
 use Rattle.has_rules.proofs.rule6.Statement.{statement}
 use Rattle.has_rules.proofs.rule6.Tie as tie

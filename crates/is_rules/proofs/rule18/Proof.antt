@@ -7,7 +7,7 @@ use Rattle.pattern.specs.File.Table.{endOfPath}
 use Rattle.lines.specs.Lines.{compare, side}
 use Rattle.lines.specs.Parts.{positive}
 use Rattle.rules.specs.declared.conclusion.Conclusion.{Conclusion}
-use Rattle.rules.specs.Fits.{on-channel, no-channel}
+use Rattle.rules.specs.RuleLaws.{on-channel, no-channel}
 use borrow.Author.Needs.{needs}
 use Rattle.is_rules.proofs.rule18.Statement.{statement}
 use Rattle.is_rules.proofs.rule18.Tie as tie

@@ -7,7 +7,7 @@ use Rattle.pattern.specs.File.Table.{sameKind}
 use Rattle.rules.specs.declared.conclusion.Conclusion.{Conclusion}
 use Rattle.lines.specs.Lines.{leads, side, axis}
 use Rattle.lines.specs.Parts.{positive, withLeft}
-use Rattle.rules.specs.Fits.{new-name, no-name}
+use Rattle.rules.specs.RuleLaws.{new-name, no-name}
 use borrow.Author.Needs.{needs}
 use Rattle.left_rules.proofs.rule14.Statement.{statement}
 use Rattle.left_rules.proofs.rule14.Tie as tie

@@ -8,7 +8,7 @@ use Rattle.lines.specs.Lines.{side}
 use Rattle.lines.specs.Parts.{negative, withLeft}
 use Rattle.rules.specs.declared.fit.Direction.{Direction}
 use Rattle.rules.specs.Rules.{arrival}
-use Rattle.rules.specs.Fits.{arrived, not-arrived}
+use Rattle.rules.specs.RuleLaws.{arrived, not-arrived}
 use borrow.Author.Needs.{needs}
 use Rattle.left_rules.proofs.rule15.Statement.{statement}
 use Rattle.left_rules.proofs.rule15.Tie as tie

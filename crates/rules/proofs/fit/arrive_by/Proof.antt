@@ -19,7 +19,7 @@ same-name-requires c κs = search needs
 far-end-requires : tie.Need-far-end-requires
 far-end-requires c κs = search needs
 
--- the test is that of `arrivalBy`
+-- the test is that of `arrival`
 tested : (c : tie.After-same-name) {t : Bool}
     → let a = c .before .before .before .before .args in
     (eqb (a .l .axis .number) (a .a) && c .same-name .result ≡ t)

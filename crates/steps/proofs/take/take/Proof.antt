@@ -7,6 +7,7 @@ use borrow.Author.Tests.{not-true, not-false}
 use Rattle.rules.specs.Rules.{ruleAt, isUnknown}
 use Rattle.lines.specs.Stored.{linesFrom, length-lines}
 use Rattle.steps.specs.Steps.{fieldFault, stepping}
+use Rattle.steps.specs.Standing.{readable}
 use borrow.Author.Needs.{needs}
 use Rattle.steps.proofs.take.take.Statement.{statement}
 use Rattle.steps.proofs.take.take.Tie as tie
@@ -38,8 +39,8 @@ returns-2 : tie.Need-returns-2
 unfolding stepping
 returns-2 c = rw (known (c .before .before), fields (c .before) (c .if2 .taken)) refl
 
-outcome-requires : tie.Need-outcome-requires
-outcome-requires c κs = (c .before .before .before .before .before .before .pre, fields (c .before) (c .if2 .left))
+step-outcome-requires : tie.Need-step-outcome-requires
+step-outcome-requires c κs = (readable (c .before .before .before .before .before .before .pre), fields (c .before) (c .if2 .left))
 
 enum-known-conclusion : tie.Need-enum-known-conclusion
 enum-known-conclusion c = search needs
@@ -52,7 +53,7 @@ unfolding stepping
 returns-3 c =
     let o = c .before .before in
     let e = o .before in
-    rw (known (e .before .before), fields (e .before) (e .if2 .left), sym (o .outcome .ensures) ∙ c .enum-told .given .1) refl
+    rw (known (e .before .before), fields (e .before) (e .if2 .left), sym (o .step-outcome .ensures) ∙ c .enum-told .given .1) refl
 
 is-stale-requires : tie.Need-is-stale-requires
 is-stale-requires c κs = search needs
@@ -66,7 +67,7 @@ returns-4 c =
     rw (
       known (e .before .before),
       fields (e .before) (e .if2 .left),
-      sym (o .outcome .ensures) ∙ f .conclusion .given .1,
+      sym (o .step-outcome .ensures) ∙ f .conclusion .given .1,
       sym (c .before .is-stale .ensures) ∙ c .if3 .taken,
     ) refl
 
@@ -79,7 +80,7 @@ returns-5 c =
     rw (
       known (e .before .before),
       fields (e .before) (e .if2 .left),
-      sym (o .outcome .ensures) ∙ f .conclusion .given .1,
+      sym (o .step-outcome .ensures) ∙ f .conclusion .given .1,
       sym (c .before .is-stale .ensures) ∙ c .if3 .left,
     ) refl
 
@@ -91,7 +92,7 @@ take-spec =
     returns
     field-fault-requires
     returns-2
-    outcome-requires
+    step-outcome-requires
     enum-known-conclusion
     enum-told
     returns-3

@@ -44,10 +44,10 @@ steps-are c =
     steps-there (a .p .now) (a .t .now) (c .h .given .0 .0) (read c)
 
 sub-check-steps : tie.Need-sub-check-steps
-sub-check-steps c = steps-are (c .before) .0
+sub-check-steps c = steps-are (c .before .before) .0
 
 part-check-steps-start : tie.Need-part-check-steps-start
-part-check-steps-start c = steps-are (c .before) .0
+part-check-steps-start c = steps-are (c .before .before) .0
 
 part-check-steps-end : tie.Need-part-check-steps-end
 part-check-steps-end c = search needs
@@ -57,18 +57,18 @@ slice-relend-prefix-check-steps c = search needs
 
 slice-aggregate-check-steps : tie.Need-slice-aggregate-check-steps
 slice-aggregate-check-steps c =
-    let i = c .before .before .before .before .before .before in
+    let i = c .before .before .before .before .before .before .before in
     sym (front-length areaNeed (i .before .before .before .before .args .area .now) (i .if1 .left))
 
 check-steps-requires : tie.Need-check-steps-requires
 check-steps-requires c κs =
-    let h = c .before .before .before in
+    let h = c .before .before .before .before in
     let a = h .before .before .before .before .before .before .before .args in
     let steps = steps-are h in (
       h .before .before .before .before .before .before .before .pre,
       (
         (rw (steps-part (a .t .now)) (steps .1), steps .2),
-        front-length areaNeed (a .area .now) (c .before .before .before .before .before .before .if1 .left),
+        front-length areaNeed (a .area .now) (c .before .before .before .before .before .before .before .if1 .left),
       ),
     )
 
@@ -89,7 +89,7 @@ same-length c = search needs
 returns-3 : tie.Need-returns-3
 returns-3 c =
     let f = c .before .before in
-    let h = f .before .before .before .before in
+    let h = f .before .before .before .before .before in
     let s = h .before .before .before .before .before .before .before in
     let a = s .args in
     let room = h .before .before .before .if1 .left in (

@@ -1,0 +1,3 @@
+-- What the functions of the walk promise each other, and laws.
+pub mod Walk
+pub mod WalkLaws

@@ -1,0 +1,4 @@
+// Checking the steps of a tableau: the walk over its branches, and what it finds.
+mod walk;
+
+pub use walk::check_steps;

@@ -1,0 +1,278 @@
+// The walk over the branches of a tableau. Line k of the branch that is being checked stands in block k
+// of the area; at a fork nothing is copied, since the lines before it stay where they are and those of
+// a side that is closed are dead.
+use lines::line::HasLine;
+use lines::line::Line;
+use lines::store;
+use pattern::types::Name;
+use pattern::types::Sign;
+use rules::conclusion::Conclusion;
+use steps::step::Step;
+use steps::step::StepAnswer;
+use steps::take::take;
+use tableau::finding::Closed;
+use tableau::finding::Counts;
+use tableau::finding::TableauFinding;
+use tableau::finding::TableauRefusal;
+use tableau::finding::WalkRefusal;
+use wire::clear;
+ghost use mathlib.Core.Path.{_≡_};
+ghost use mathlib.Core.List.{List};
+ghost use Prim.Native.Nat.{ℕ, _+_, _*_, _≤_, _<_};
+ghost use lib.ListN.{length, replicate};
+ghost use Rattle.wire.specs.Cleared.{cleared};
+ghost use Rattle.pattern.specs.Checks.Finding.{found};
+ghost use Rattle.pattern.specs.File.Reading.{readingOf};
+ghost use Rattle.lines.specs.Stored.{putLine};
+ghost use Rattle.branch_walk.specs.declared.walk.Advance.{Advance};
+ghost use Rattle.rules.specs.Sides.{sides};
+ghost use Rattle.tableau.specs.Run.{longest, maxLines, maxWaiting};
+ghost use Rattle.tableau.specs.Judging.{maxSteps, areaNeed, areaAfter, findingOf};
+ghost use Rattle.branch_walk.specs.Walk.{Bounded, Lent, countClash, countFork, advanceOf, pushed, Advances, Stops, Walks, finished, stepsFound};
+
+// Document 01's bounds: the lines of a branch, and the right sides that wait.
+const MAX_LINES: u16 = 1024;
+
+const MAX_WAITING: u8 = 64;
+
+// Where the straight part of a branch ends: at a clash or a fork, with the number of that step and of
+// the lines that the branch has at it, and of a fork the line of each side; or at a refusal.
+pub enum Stop {
+    Clash(u16, u16),
+    Fork(u16, u16, Line, Line),
+    Refused(WalkRefusal),
+}
+
+// What one step does: the branch has so many lines after it, or it stops there.
+pub enum Advance {
+    Grown(u16),
+    Stopped(Stop),
+}
+
+// How the walk over a branch ends: it is closed, with the number of the next step and the counts; or
+// a refusal.
+pub enum BranchEnd {
+    Closed(u16, Counts),
+    Refused(WalkRefusal),
+}
+
+// The number of lines that a conclusion adds to a branch, or to each side.
+fn added_by(c: Conclusion) -> u16
+    ensures { λ r. ⌜ (r ≡ longest (sides c)) × (r ≤ 2) ⌝ }
+{
+    match c {
+        Conclusion::One(_) => 1,
+        Conclusion::Two(_, _) => 2,
+        Conclusion::New(_, _, _) => 2,
+        Conclusion::Fork(_, _) => 1,
+        Conclusion::Clash => 0,
+    }
+}
+
+// Adds a line to a branch of so many.
+fn push(area: &mut [u8], len: u16, l: Line) -> Advance
+    requires { ⌜ length (now area) ≡ areaNeed ⌝ }
+    requires { ⌜ len + 1 ≤ maxLines ⌝ }
+    ensures grown { λ r. ⌜ r ≡ Advance.Grown (len + 1) ⌝ }
+    ensures area { λ r. ⌜ now (area .exit) ≡ putLine (now (area .entry)) len l ⌝ }
+{
+    store(area, len as usize, l);
+    Advance::Grown(len + 1)
+}
+
+// Adds two lines to a branch of so many.
+fn push_two(area: &mut [u8], len: u16, l: Line, m: Line) -> Advance
+    requires { ⌜ length (now area) ≡ areaNeed ⌝ }
+    requires { ⌜ len + 2 ≤ maxLines ⌝ }
+    ensures grown { λ r. ⌜ r ≡ Advance.Grown (len + 2) ⌝ }
+    ensures area { λ r. ⌜ now (area .exit) ≡ putLine (putLine (now (area .entry)) len l) (len + 1) m ⌝ }
+{
+    let next = len as usize;
+    store(area, next, l);
+    store(area, next + 1, m);
+    Advance::Grown(len + 2)
+}
+
+// Adds the lines of step k's conclusion to a branch of so many lines.
+fn extend(area: &mut [u8], c: Conclusion, k: u16, len: u16) -> Advance
+    requires { ⌜ length (now area) ≡ areaNeed ⌝ }
+    requires { ⌜ len + longest (sides c) ≤ maxLines ⌝ }
+    ensures advance { λ r. ⌜ r ≡ advanceOf k len c ⌝ }
+    ensures area { λ r. ⌜ now (area .exit) ≡ pushed (now (area .entry)) len c ⌝ }
+{
+    match c {
+        Conclusion::One(l) => push(area, len, l),
+        Conclusion::Two(l, m) => push_two(area, len, l, m),
+        Conclusion::New(_, l, m) => push_two(area, len, l, m),
+        Conclusion::Fork(l, r) => Advance::Stopped(Stop::Fork(k, len, l, r)),
+        Conclusion::Clash => Advance::Stopped(Stop::Clash(k, len)),
+    }
+}
+
+// Checks step k on a branch of so many lines, and adds its lines.
+fn take_step(p: &[u8], n: u8, steps: &[u8], s: u16, area: &mut [u8], k: u16, len: u16) -> Advance
+    requires { ⌜ Lent (now p) n (now steps) s (now area) k len ⌝ }
+    requires { ⌜ k < s ⌝ }
+    ensures { λ r. ⌜ Advances (now (p .entry)) n (now (steps .entry)) s (now (area .entry)) k len r (now (area .exit)) ⌝ }
+{
+    let step = Step::at(steps, k as usize);
+    let answer = take(p, n, area, len as usize, step, k);
+    match answer {
+        StepAnswer::Refused(refusal) => {
+            Advance::Stopped(Stop::Refused(WalkRefusal::Step(refusal)))
+        }
+        StepAnswer::Concluded(c) => {
+            if MAX_LINES < len + added_by(c) {
+                return Advance::Stopped(Stop::Refused(WalkRefusal::Lines(k)));
+            }
+            extend(area, c, k, len)
+        }
+    }
+}
+
+// Checks the steps from step k on that add lines to a branch of so many lines, up to the clash or fork
+// or refusal that ends them.
+fn straight(p: &[u8], n: u8, steps: &[u8], s: u16, area: &mut [u8], k: u16, len: u16) -> Stop
+    requires { ⌜ Lent (now p) n (now steps) s (now area) k len ⌝ }
+    ensures { λ r. ⌜ Stops (now (p .entry)) n (now (steps .entry)) s (now (area .entry)) k len r (now (area .exit)) ⌝ }
+{
+    let mut i = k;
+    let mut lines = len;
+    while i < s {
+        match take_step(p, n, steps, s, area, i, lines) {
+            Advance::Stopped(stop) => {
+                return stop;
+            }
+            Advance::Grown(more) => {
+                lines = more;
+            }
+        }
+        i += 1;
+    }
+    Stop::Refused(WalkRefusal::StillOpen(s))
+}
+
+// The counts with a clash on a branch of so many lines.
+fn with_clash(c: Counts, len: u16) -> Counts
+    requires { ⌜ c .clashes < 65535 ⌝ }
+    ensures { λ r. ⌜ r ≡ countClash len c ⌝ }
+{
+    let clashes = c.clashes + 1;
+    let forks = c.forks;
+    if c.most < len {
+        return Counts {
+            clashes,
+            forks,
+            most: len,
+        };
+    }
+    Counts {
+        clashes,
+        forks,
+        most: c.most,
+    }
+}
+
+// The counts with a fork.
+fn with_fork(c: Counts) -> Counts
+    requires { ⌜ c .forks < 65535 ⌝ }
+    ensures { λ r. ⌜ r ≡ countFork c ⌝ }
+{
+    Counts {
+        clashes: c.clashes,
+        forks: c.forks + 1,
+        most: c.most,
+    }
+}
+
+// Walks over a branch of so many lines, from step k on, with so many right sides waiting: to its clash,
+// or at a fork over the left side and then over the right side. The number of unread steps falls.
+fn walk(
+    p: &[u8],
+    n: u8,
+    steps: &[u8],
+    s: u16,
+    area: &mut [u8],
+    k: u16,
+    len: u16,
+    waiting: u8,
+    counts: Counts,
+) -> BranchEnd
+    requires { ⌜ Lent (now p) n (now steps) s (now area) k len ⌝ }
+    requires { ⌜ waiting ≤ maxWaiting ⌝ }
+    requires { ⌜ Bounded k counts ⌝ }
+    ensures { λ r. ⌜ Walks (now (p .entry)) (now (steps .entry)) s (now (area .entry)) k len waiting counts r (now (area .exit)) ⌝ }
+{
+    match straight(p, n, steps, s, area, k, len) {
+        Stop::Refused(refusal) => BranchEnd::Refused(refusal),
+        Stop::Clash(at, lines) => BranchEnd::Closed(at + 1, with_clash(counts, lines)),
+        Stop::Fork(at, lines, left, right) => {
+            if MAX_WAITING <= waiting {
+                return BranchEnd::Refused(WalkRefusal::Waiting(at));
+            }
+            store(area, lines as usize, left);
+            let forked = with_fork(counts);
+            let first = walk(p, n, steps, s, area, at + 1, lines + 1, waiting + 1, forked);
+            match first {
+                BranchEnd::Refused(refusal) => BranchEnd::Refused(refusal),
+                BranchEnd::Closed(next, counted) => {
+                    store(area, lines as usize, right);
+                    walk(p, n, steps, s, area, next, lines + 1, waiting, counted)
+                }
+            }
+        }
+    }
+}
+
+// The finding where the walk over the first branch ends so: steps that are left are refused.
+fn finish(end: BranchEnd, s: u16) -> TableauFinding
+    ensures { λ r. ⌜ findingOf r ≡ finished s end ⌝ }
+{
+    match end {
+        BranchEnd::Refused(refusal) => TableauFinding::Refused(TableauRefusal::Walk(refusal)),
+        BranchEnd::Closed(k, counts) => {
+            if k < s {
+                return TableauFinding::Refused(TableauRefusal::Walk(WalkRefusal::AllClosed(k)));
+            }
+            TableauFinding::Closed(Closed {
+                steps: s,
+                clashes: counts.clashes,
+                forks: counts.forks,
+                most: counts.most,
+            })
+        }
+    }
+}
+
+// Checks the s steps of a tableau with this start name, for a pattern of n entries that was read. The
+// area is left zero.
+pub fn check_steps(
+    p: &[u8],
+    n: u8,
+    steps: &[u8],
+    area: &mut [u8],
+    start: Name,
+    s: u16,
+) -> TableauFinding
+    requires { ⌜ readingOf (now p) ≡ found n ⌝ }
+    requires { ⌜ (length (now steps) ≡ 6 * s) × (s ≤ maxSteps) ⌝ }
+    requires { ⌜ length (now area) ≡ areaNeed ⌝ }
+    ensures finding { λ r. ⌜ findingOf r ≡ stepsFound (now (p .entry)) n (now (steps .entry)) start s ⌝ }
+    ensures clears { λ r. ⌜ ((xs : List ℕ) → areaAfter (findingOf r) xs ≡ cleared areaNeed xs) ⌝ }
+    ensures area { λ r. ⌜ now (area .exit) ≡ replicate (length (now (area .entry))) 0 ⌝ }
+{
+    let first = Line::Has(HasLine {
+        sign: Sign::Positive,
+        name: start,
+        node: n - 1,
+    });
+    store(area, 0, first);
+    let none = Counts {
+        clashes: 0,
+        forks: 0,
+        most: 0,
+    };
+    let end = walk(p, n, steps, s, area, 0, 1, 0, none);
+    clear(area);
+    finish(end, s)
+}
