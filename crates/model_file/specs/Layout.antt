@@ -1,21 +1,20 @@
 -- The layout of a model file: its header, and where each field of its records stands.
 -- Assumes nothing.
-use mathlib.Core.List.{List, [], _∷_}
+use mathlib.Core.List.{List}
 use Prim.Native.Nat.{ℕ, _+_, _*_}
 use lib.ListN.{getD}
-use Rattle.wire.specs.Fields.{wordAt, word32At}
-use Rattle.nodeset.specs.Set.{width}
+use Rattle.wire.specs.Fields.{text, wordAt, word32At}
 
 -- 01: "Mark `DAT`"
 abbrev pub mark : List ℕ
-mark = 68 ∷ 65 ∷ 84 ∷ []
+mark = text "DAT"
 
--- 01: "node count n (one byte, 1 to 64)": as many nodes as a set can have
+-- 01: "node count n (one byte, 1 to 64)"
 abbrev pub nodeCount : List ℕ → ℕ
 nodeCount ds = getD ds 5 0
 
 abbrev pub maxNodes : ℕ
-maxNodes = width
+maxNodes = 64
 
 -- 01: "name count m (one byte, up to 128)"
 abbrev pub nameCount : List ℕ → ℕ

@@ -2,7 +2,8 @@
 // 3." Each is made from a number by a function that refuses one out of range. Beside them, the signs
 // and the comparisons.
 ghost use mathlib.Core.Path.{_≡_};
-ghost use Rattle.pattern.specs.File.Types.{make, maxName, maxProperty, maxAxis, maxChannel, nameMade, propertyMade, axisMade, channelMade, channelNumber, opposite, otherOf};
+ghost use Rattle.pattern.specs.File.Types.{maxName, maxProperty, maxAxis, maxChannel, channelNumber, opposite, otherOf};
+ghost use Rattle.pattern.specs.File.Made.{make, nameMade, propertyMade, axisMade, channelMade};
 
 // A name, what source 000 calls a nominal: it stands for one node.
 pub struct Name {

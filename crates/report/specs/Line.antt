@@ -2,19 +2,13 @@
 -- Assumes nothing.
 use mathlib.Core.List.{List, [], _∷_, _++_}
 use Prim.Native.Nat.{ℕ, zero, suc, _+_, _/_, _%_}
-use Prim.Native.String as string
-use Prim.Native.String.{String}
 use Prim.Native.Char.{code}
 use lib.Dec.{ltb}
 use lib.ListN.{length, drop}
 use Rattle.wire.specs.Choice.{pick}
+use Rattle.wire.specs.Fields.{text}
 use Rattle.report.specs.declared.Report.{Report}
 use Rattle.report.specs.Report.{reportOf}
-
--- the bytes of a text whose characters are ASCII
-abbrev pub text : String → List ℕ
-text string.[] = []
-text (string._∷_ c cs) = code c ∷ text cs
 
 -- the digits of a number, at most so many, without leading zeros: the last one, and before it those of the tenth of a number over 9
 unfoldable pub digitsWithin : ℕ → ℕ → List ℕ

@@ -32,7 +32,8 @@ use Rattle.rules.specs.Rules.{ruleAt}
 use Rattle.steps.specs.Steps.{stepAt, stepsFrom, stepping}
 use Rattle.tableau.specs.Run.{run}
 use Rattle.tableau.specs.Judging as tableau
-use Rattle.report.specs.Line.{text, digitsWithin, lineFor}
+use Rattle.wire.specs.Fields.{text}
+use Rattle.report.specs.Line.{digitsWithin, lineFor}
 
 -- each of the claims
 abbrev pub All : List (Type 0) → Type 0

@@ -8,7 +8,8 @@ use Prim.Native.Nat.{ℕ}
 use lib.Dec.{leb}
 use Rattle.pattern.specs.declared.types.Name.{Name}
 use Rattle.pattern.specs.declared.types.Channel.{Channel}
-use Rattle.pattern.specs.File.Types.{maxName, maxChannel, channelNumber, made, outOfRange, make, made-within, out-beyond}
+use Rattle.pattern.specs.File.Types.{maxName, maxChannel, channelNumber}
+use Rattle.pattern.specs.File.Made.{made, outOfRange, make, made-within, out-beyond}
 use Rattle.lines.specs.declared.line.HasLine.{HasLine}
 use Rattle.lines.specs.declared.line.IsLine.{IsLine}
 use Rattle.lines.specs.declared.line.CompareLine.{CompareLine}

@@ -6,7 +6,7 @@ use Prim.Native.Nat.{ℕ, _+_, _-_, _*_}
 use lib.Dec.{leb, ltb, eqb}
 use lib.ListN.{length, getD, drop}
 use Rattle.wire.specs.Choice.{pick}
-use Rattle.wire.specs.Fields.{beginsWith, wordAt}
+use Rattle.wire.specs.Fields.{text, beginsWith, wordAt}
 use Rattle.wire.specs.Cleared.{cleared}
 use Rattle.pattern.specs.declared.types.Sign.{Sign}
 use Rattle.pattern.specs.Checks.Finding.{Finding, found, refused, Check, refusesIf, _then_, onward}
@@ -29,7 +29,7 @@ use Rattle.tableau.specs.Run.{run, none}
 
 -- ---- "Tableau file: mark `TAB`, 16-bit version 1, start name (one byte), 16-bit step count s (1 to 4096)."
 abbrev pub mark : List ℕ
-mark = 84 ∷ 65 ∷ 66 ∷ []
+mark = text "TAB"
 
 abbrev pub startOf : List ℕ → ℕ
 startOf ts = getD ts 5 0

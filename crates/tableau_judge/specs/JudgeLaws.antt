@@ -15,7 +15,8 @@ use Rattle.pattern.specs.declared.types.Name.{Name}
 use Rattle.pattern.specs.declared.types.NameMade.{NameMade}
 use Rattle.pattern.specs.declared.finding.PatternRefusal.{PatternRefusal}
 use Rattle.pattern.specs.Checks.Finding.{found, refused, found-passes, refused-refuses}
-use Rattle.pattern.specs.File.Types.{maxName, make, made, outOfRange, nameMade, out-beyond}
+use Rattle.pattern.specs.File.Types.{maxName}
+use Rattle.pattern.specs.File.Made.{make, made, outOfRange, nameMade, out-beyond}
 use Rattle.pattern.specs.File.Reading.{readingOf, numberOf}
 use Rattle.pattern.specs.File.Valid.{read-passes, read-refuses}
 use Rattle.lines.specs.Lines.{name}

@@ -4,11 +4,19 @@ use mathlib.Core.Path.{_≡_, refl}
 use mathlib.Core.Bool.{Bool, true, false, _&&_, and-false}
 use mathlib.Core.List.{List, [], _∷_}
 use Prim.Native.Nat.{ℕ, zero, suc, _+_, _*_, _≤_, _<_}
+use Prim.Native.String as string
+use Prim.Native.String.{String}
+use Prim.Native.Char.{code}
 use native.Mathlib.Nat.{le-of-suc-le-suc, not-suc-le-zero}
 use native.Mathlib.Omega.{arith}
 use borrow.Author.Tests.{eq-eqb, ne-eqb}
 use lib.ListN.{getD, length}
 use lib.Dec.{eqb}
+
+-- the bytes of a text whose characters are ASCII
+abbrev pub text : String → List ℕ
+text string.[] = []
+text (string._∷_ c cs) = code c ∷ text cs
 
 -- 01: "Each file's three-letter mark is a fixed byte string compared with the first bytes of the lent slice": byte for byte
 abbrev pub beginsWith : List ℕ → List ℕ → Bool

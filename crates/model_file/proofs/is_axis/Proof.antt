@@ -1,7 +1,8 @@
 -- `model_file::is_axis` meets its contract: what the making function answers says whether the value is in range.
 -- Assumes nothing.
 use borrow.Author.Needs.{needs}
-use Rattle.pattern.specs.File.Types.{maxAxis, made-within, out-beyond}
+use Rattle.pattern.specs.File.Types.{maxAxis}
+use Rattle.pattern.specs.File.Made.{made-within, out-beyond}
 use Rattle.model_file.proofs.is_axis.Statement.{statement}
 use Rattle.model_file.proofs.is_axis.Tie as tie
 

@@ -1,12 +1,12 @@
 -- Reading a pattern: 01's refusals 1 to 8, in its order, as an executable definition.
 -- Assumes nothing.
 use mathlib.Core.Bool.{Bool, true, not, _||_}
-use mathlib.Core.List.{List, [], _∷_}
+use mathlib.Core.List.{List}
 use Prim.Native.Nat.{ℕ, _+_, _-_, _*_}
 use lib.ListN.{length, getD}
 use lib.Dec.{leb, ltb, eqb}
 use Rattle.wire.specs.Choice.{pick}
-use Rattle.wire.specs.Fields.{beginsWith, wordAt}
+use Rattle.wire.specs.Fields.{text, beginsWith, wordAt}
 use Rattle.pattern.specs.declared.table.Sort.{Sort}
 use Rattle.pattern.specs.declared.table.Field.{Field}
 use Rattle.pattern.specs.declared.finding.PatternRefusal.{PatternRefusal}
@@ -20,7 +20,7 @@ use Rattle.pattern.specs.File.Entries.{maxEntries, entryAt, sameBytes}
 
 -- the mark `PAT`
 abbrev pub mark : List ℕ
-mark = 80 ∷ 65 ∷ 84 ∷ []
+mark = text "PAT"
 
 -- the number of entries, "one byte n"
 abbrev pub countOf : List ℕ → ℕ

@@ -1,16 +1,7 @@
--- The kind types of document 01, what their making functions answer, and the two enums that go with them.
+-- 01's ranges of names, properties, axes and channels, and the enums that go with them.
 -- Assumes nothing.
-use mathlib.Core.Path.{_≡_, refl}
-use mathlib.Core.Bool.{Bool, true, false}
-use Prim.Native.Nat.{ℕ, _≤_, _<_}
-use borrow.Author.Tests.{le-leb, lt-leb}
-use lib.Dec.{leb}
-use Rattle.wire.specs.Choice.{pick}
-use Rattle.pattern.specs.declared.types.NameMade.{NameMade}
-use Rattle.pattern.specs.declared.types.PropertyMade.{PropertyMade}
-use Rattle.pattern.specs.declared.types.AxisMade.{AxisMade}
+use Prim.Native.Nat.{ℕ}
 use Rattle.pattern.specs.declared.types.Channel.{Channel}
-use Rattle.pattern.specs.declared.types.ChannelMade.{ChannelMade}
 use Rattle.pattern.specs.declared.types.Sign.{Sign}
 use Rattle.pattern.specs.declared.types.Comparison.{Comparison}
 
@@ -27,38 +18,12 @@ maxAxis = 7
 abbrev pub maxChannel : ℕ
 maxChannel = 3
 
--- What a making function answers: the number that it was handed, or that this is out of range.
-pub data Made : Type 0 where
-  made : ℕ → Made
-  outOfRange : Made
-
--- a number up to the largest is made, any other is out of range
-abbrev pub make : ℕ → ℕ → Made
-make largest n = pick (leb n largest) (made n) outOfRange
-
 -- 01's number of each channel
 abbrev pub channelNumber : Channel → ℕ
 channelNumber Channel.C0 = 0
 channelNumber Channel.C1 = 1
 channelNumber Channel.C2 = 2
 channelNumber Channel.C3 = 3
-
--- 01's number for each answer of a making function
-abbrev pub nameMade : NameMade → Made
-nameMade (NameMade.Made i) = made (i .number)
-nameMade NameMade.OutOfRange = outOfRange
-
-abbrev pub propertyMade : PropertyMade → Made
-propertyMade (PropertyMade.Made p) = made (p .number)
-propertyMade PropertyMade.OutOfRange = outOfRange
-
-abbrev pub axisMade : AxisMade → Made
-axisMade (AxisMade.Made a) = made (a .number)
-axisMade AxisMade.OutOfRange = outOfRange
-
-abbrev pub channelMade : ChannelMade → Made
-channelMade (ChannelMade.Made e) = made (channelNumber e)
-channelMade ChannelMade.OutOfRange = outOfRange
 
 -- has for lacks, is for is not, held for barred, and back
 abbrev pub opposite : Sign → Sign
@@ -69,24 +34,3 @@ opposite Sign.Negative = Sign.Positive
 abbrev pub otherOf : Comparison → Comparison
 otherOf Comparison.Same = Comparison.Differ
 otherOf Comparison.Differ = Comparison.Same
-
--- ---- laws
-pub make-in : (largest n : ℕ) → n ≤ largest → make largest n ≡ made n
-make-in largest n h = rw (le-leb n largest h)
-
-pub make-out : (largest n : ℕ) → largest < n → make largest n ≡ outOfRange
-make-out largest n h = rw (lt-leb n largest h)
-
-pub made-within : (largest n k : ℕ) → made k ≡ make largest n → true ≡ leb n largest
-made-within largest n k e = go (leb n largest) e
-  where
-    go : (b : Bool) → made k ≡ pick b (made n) outOfRange → true ≡ b
-    go true h = refl
-    go false h = cc
-
-pub out-beyond : (largest n : ℕ) → outOfRange ≡ make largest n → false ≡ leb n largest
-out-beyond largest n e = go (leb n largest) e
-  where
-    go : (b : Bool) → outOfRange ≡ pick b (made n) outOfRange → false ≡ b
-    go true h = cc
-    go false h = refl

@@ -1,6 +1,7 @@
 -- `pattern_read::in_range` meets its contract: what each making function answers says whether the value is in its range.
 -- Assumes nothing.
-use Rattle.pattern.specs.File.Types.{maxProperty, maxName, maxAxis, maxChannel, made-within, out-beyond}
+use Rattle.pattern.specs.File.Types.{maxProperty, maxName, maxAxis, maxChannel}
+use Rattle.pattern.specs.File.Made.{made-within, out-beyond}
 use borrow.Author.Needs.{needs}
 use Rattle.pattern_read.proofs.in_range.Statement.{statement}
 use Rattle.pattern_read.proofs.in_range.Tie as tie

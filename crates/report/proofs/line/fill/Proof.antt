@@ -2,7 +2,8 @@
 -- Assumes nothing.
 use borrow.Author.Needs.{needs}
 use mathlib.Core.List.{[], _++_}
-use Rattle.report.specs.Line.{text, number}
+use Rattle.wire.specs.Fields.{text}
+use Rattle.report.specs.Line.{number}
 use Rattle.report.specs.Filling.{filled-none, filled-more}
 use Rattle.report.proofs.line.fill.Statement.{statement}
 use Rattle.report.proofs.line.fill.Tie as tie

@@ -2,7 +2,8 @@
 -- Assumes nothing.
 use mathlib.Core.Path.{sym}
 use native.Mathlib.Omega.{arith}
-use Rattle.pattern.specs.File.Types.{maxChannel, make-out}
+use Rattle.pattern.specs.File.Types.{maxChannel}
+use Rattle.pattern.specs.File.Made.{make-out}
 use Rattle.pattern.proofs.types.Channel.of.Statement.{statement}
 use Rattle.pattern.proofs.types.Channel.of.Tie as tie
 

@@ -1,7 +1,8 @@
 -- `pattern::types::Name::of` meets its contract: the test that led to each return says which case of `make` holds.
 -- Assumes nothing.
 use mathlib.Core.Path.{sym}
-use Rattle.pattern.specs.File.Types.{maxName, make-in, make-out}
+use Rattle.pattern.specs.File.Types.{maxName}
+use Rattle.pattern.specs.File.Made.{make-in, make-out}
 use Rattle.pattern.proofs.types.Name.of.Statement.{statement}
 use Rattle.pattern.proofs.types.Name.of.Tie as tie
 

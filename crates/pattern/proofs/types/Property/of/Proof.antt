@@ -1,7 +1,8 @@
 -- `pattern::types::Property::of` meets its contract: the test that led to each return says which case of `make` holds.
 -- Assumes nothing.
 use mathlib.Core.Path.{sym}
-use Rattle.pattern.specs.File.Types.{maxProperty, make-in, make-out}
+use Rattle.pattern.specs.File.Types.{maxProperty}
+use Rattle.pattern.specs.File.Made.{make-in, make-out}
 use Rattle.pattern.proofs.types.Property.of.Statement.{statement}
 use Rattle.pattern.proofs.types.Property.of.Tie as tie
 
