@@ -9,12 +9,11 @@ use pattern::finding::PatternRead;
 use pattern::finding::PatternRefusal;
 use pattern_read::read;
 ghost use mathlib.Core.Path.{_≡_};
-ghost use mathlib.Core.Logic.{_↔_};
 ghost use lib.ListN.{length};
 ghost use Rattle.nodeset.specs.Set.{width, has};
 ghost use Rattle.pattern.specs.Checks.Finding.{found};
-ghost use Rattle.decision.specs.Judged.{Judged, judgedBy};
-ghost use Rattle.model.specs.Judging.{judgingCheck, judgingOf, areaAfter, Judgement, refusalNumber, refusalPlace, checkOf, findingOf};
+ghost use Rattle.decision.specs.Judged.{judgedBy};
+ghost use Rattle.model.specs.Judging.{judgingCheck, judgingOf, areaAfter, refusalNumber, refusalPlace, checkOf, findingOf};
 
 // Document 01's refusals of judging a model: 1 to 8 of the pattern, 9 of the working area, 10 to 14
 // of the model file.
@@ -97,7 +96,6 @@ fn judged(s: NodeSet) -> ModelFinding
 pub fn judge(p: &[u8], d: &[u8], area: &mut [u8]) -> ModelFinding
     ensures finding { λ r. ⌜ findingOf r ≡ judgingOf (now (p .entry)) (now (d .entry)) (length (now (area .entry))) ⌝ }
     ensures area { λ r. ⌜ now (area .exit) ≡ areaAfter (now (p .entry)) (findingOf r) (now (area .entry)) ⌝ }
-    ensures meaning { λ r. ⌜ ((j : Judged) → (findingOf r ≡ found j) ↔ Judgement (now (p .entry)) (now (d .entry)) (length (now (area .entry))) j) ⌝ }
 {
     if let JudgeCheck::Refused(refusal) = check_all(p, d, area.len()) {
         return ModelFinding::Refused(refusal);

@@ -19,7 +19,7 @@ returns : tie.Need-returns
 returns c =
     let judged = c .before .before .judge in
     let a = c .before .before .before .before .before .before .before .args in
-    model-promised (a .p .now) (a .d .now) (a .area .now) _ (findingOf (judged .result)) (judged .ensures .0) (judged .ensures .1 .0)
+    model-promised (a .p .now) (a .d .now) (a .area .now) _ (findingOf (judged .result)) (judged .ensures .0) (judged .ensures .1)
 
 pub judge-model-spec : {M : Type 1} → statement M
 judge-model-spec = tie.close (tie.spec judge-requires same-length returns)

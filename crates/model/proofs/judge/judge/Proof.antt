@@ -1,4 +1,4 @@
--- `model::judge::judge` meets its contract: its finding is that of the definition, and so says what the definition says.
+-- `model::judge::judge` meets its contract: its finding is that of the definition.
 -- Assumes nothing.
 use borrow.Author.Needs.{needs}
 use mathlib.Core.Path.{_≡_, refl, sym, _∙_, ap}
@@ -10,7 +10,7 @@ use Rattle.pattern.specs.Checks.Finding.{found, passes}
 use Rattle.pattern.specs.File.Reading.{countOf}
 use Rattle.pattern.specs.File.Valid.{Valid, valid-read}
 use Rattle.model_file.specs.Valid.{ValidModel}
-use Rattle.model.specs.Judging.{areaNeed, judgingCheck, checkOf, checks-pass, judging-finds, judging-refuses, finding-means, root-judged}
+use Rattle.model.specs.Judging.{areaNeed, judgingCheck, checkOf, checks-pass, judging-finds, judging-refuses, root-judged}
 use Rattle.model.proofs.judge.judge.Statement.{statement}
 use Rattle.model.proofs.judge.judge.Tie as tie
 
@@ -26,8 +26,7 @@ returns c = let k = c .before .before .before in
     let bs = a .p .now in
     let ds = a .d .now in
     let size = length (a .area .now) in
-    let e = sym (judging-refuses bs ds size _ _ (sym (k .check-all .ensures) ∙ ap checkOf (c .before .refusal .given .1))) in
-    (e, (refl, finding-means bs ds size _ e))
+    (sym (judging-refuses bs ds size _ _ (sym (k .check-all .ensures) ∙ ap checkOf (c .before .refusal .given .1))), refl)
 
 enum-told : tie.Need-enum-told
 enum-told c = search needs
@@ -74,12 +73,9 @@ returns-2 c = let v = c .before .before .before in
     let bs = a .p .now in
     let ds = a .d .now in
     let area = a .area .now in
-    let e = c .judged .ensures ∙ ap found (root-judged bs (allowed t .2) (v .root-nodes .result) (v .root-nodes .ensures .0)) ∙ sym (judging-finds bs ds (length area) (checked t)) in (
-      e,
-      (
-        rw (c .judged .ensures) (cleared-front (areaNeed bs) area _ (allowed t .1) (v .root-nodes .ensures .1)),
-        finding-means bs ds (length area) _ e,
-      ),
+    let set = root-judged bs (allowed t .2) (v .root-nodes .result) (v .root-nodes .ensures .0) in (
+      c .judged .ensures ∙ ap found set ∙ sym (judging-finds bs ds (length area) (checked t)),
+      rw (c .judged .ensures) (cleared-front (areaNeed bs) area _ (allowed t .1) (v .root-nodes .ensures .1)),
     )
 
 pub judge-spec : {M : Type 1} → statement M
