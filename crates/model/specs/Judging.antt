@@ -66,16 +66,18 @@ refusalPlace (JudgeRefusal.Pattern refusal) = reading.placeOf refusal
 refusalPlace JudgeRefusal.Area = 0
 refusalPlace (JudgeRefusal.Model refusal) = file.placeOf refusal
 
-abbrev pub checkOf : JudgeCheck → Check
-checkOf JudgeCheck.Passed = passes
-checkOf (JudgeCheck.Refused refusal) = refuses (refusalNumber refusal) (refusalPlace refusal)
-
 abbrev pub findingOf : ModelFinding → Finding Judged
 findingOf (ModelFinding.Met lowest number) = found (met lowest number)
 findingOf ModelFinding.Unmet = found unmet
 findingOf (ModelFinding.Refused refusal) = refused (refusalNumber refusal) (refusalPlace refusal)
 
 -- ---- laws
+
+-- the outcome of the code's checks
+abbrev pub checkOf : JudgeCheck → Check
+checkOf JudgeCheck.Passed = passes
+checkOf (JudgeCheck.Refused refusal) = refuses (refusalNumber refusal) (refusalPlace refusal)
+
 -- the checks pass exactly where nothing is to be refused
 pub checks-pass : (bs ds : List ℕ) (size : ℕ)
     → (judgingCheck bs ds size ≡ passes) ↔ (Valid bs (countOf bs) × (areaNeed bs ≤ size) × ValidModel ds)

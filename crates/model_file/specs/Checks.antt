@@ -68,6 +68,8 @@ placeOf ModelRefusal.Count = 0
 placeOf (ModelRefusal.Name j) = j
 placeOf (ModelRefusal.Edge i) = i
 
+-- ---- laws
+
 -- the outcome of a check of a model file
 abbrev pub checkOf : ModelCheck → Check
 checkOf ModelCheck.Passed = passes

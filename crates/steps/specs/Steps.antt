@@ -108,11 +108,12 @@ refusalPlace (StepRefusal.Field k) = k
 refusalPlace (StepRefusal.Fit k) = k
 refusalPlace (StepRefusal.Fresh k) = k
 
+-- ---- laws
+
+-- the answer of the code
 abbrev pub answerOf : StepAnswer → Finding Conclusion
 answerOf (StepAnswer.Concluded c) = found c
 answerOf (StepAnswer.Refused refusal) = refused (refusalNumber refusal) (refusalPlace refusal)
-
--- ---- laws
 
 -- a field without fault, and back
 on-branch : (b : List Line) (k : ℕ) → offBranch b k ≡ false → k < length b

@@ -28,16 +28,17 @@ beginsWith (m ∷ ms) (b ∷ bs) = eqb b m && beginsWith ms bs
 abbrev pub wordAt : List ℕ → ℕ → ℕ
 wordAt s i = getD s i 0 + getD s (i + 1) 0 * 256
 
--- the like of 32 bits, as a model file's "32-bit little-endian property set", and of 64
+-- the like of 32 bits, as a model file's "32-bit little-endian property set"
 abbrev pub word32At : List ℕ → ℕ → ℕ
 word32At s i = getD s i 0 + getD s (i + 1) 0 * 256 + getD s (i + 2) 0 * 65536 + getD s (i + 3) 0 * 16777216
 
+-- ---- laws
+
+-- the like of 64 bits, as a node set is stored
 abbrev pub word64At : List ℕ → ℕ → ℕ
 word64At s i =
     word32At s i + getD s (i + 4) 0 * 4294967296 + getD s (i + 5) 0 * 1099511627776 + getD s (i + 6) 0 * 281474976710656
     + getD s (i + 7) 0 * 72057594037927936
-
--- ---- laws
 
 -- too short for the mark
 pub begins-short : (m s : List ℕ) → length s < length m → beginsWith m s ≡ false

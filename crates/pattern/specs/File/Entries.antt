@@ -16,10 +16,6 @@ maxEntries = 255
 abbrev pub offset : ℕ → ℕ
 offset k = 6 + 4 * k
 
--- the file is long enough for entry k
-abbrev pub HasEntry : List ℕ → ℕ → Type 0
-HasEntry bs k = 10 + 4 * k ≤ length bs
-
 -- entry k: its kind and its fields
 abbrev pub entryAt : List ℕ → ℕ → Entry
 entryAt bs k =
@@ -35,3 +31,9 @@ unfoldable pub sameBytes : List ℕ → ℕ → ℕ → Bool
 sameBytes bs j k =
     eqb (getD bs (offset j) 0) (getD bs (offset k) 0) && eqb (getD bs (offset j + 1) 0) (getD bs (offset k + 1) 0)
     && eqb (getD bs (offset j + 2) 0) (getD bs (offset k + 2) 0) && eqb (getD bs (offset j + 3) 0) (getD bs (offset k + 3) 0)
+
+-- ---- laws
+
+-- the file is long enough for entry k
+abbrev pub HasEntry : List ℕ → ℕ → Type 0
+HasEntry bs k = 10 + 4 * k ≤ length bs

@@ -77,15 +77,15 @@ unfoldable mutual
 unfoldable pub nodeAt : List ℕ → ℕ → NExp
 nodeAt bs k = nodeWithin bs (suc k) k
 
--- The path expression of a reference: the end of path, or that of entry v.
-unfoldable pub pathAt : List ℕ → ℕ → PExp
-pathAt bs v = orEnd (eqb v endOfPath) (pathWithin bs (suc v) v)
-
 -- "Entries number from 0; the last is the root."
 abbrev pub rootOf : List ℕ → NExp
 rootOf bs = nodeAt bs (countOf bs - 1)
 
 -- ---- laws
+
+-- The path expression of a reference: the end of path, or that of entry v.
+unfoldable pub pathAt : List ℕ → ℕ → PExp
+pathAt bs v = orEnd (eqb v endOfPath) (pathWithin bs (suc v) v)
 
 module _ (N N′ : ℕ → NExp) (P P′ : ℕ → PExp) (x y z : ℕ) where
   -- an expression is made of those of its references alone
