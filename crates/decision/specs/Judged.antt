@@ -22,14 +22,14 @@ pub data Judged : Type 0 where
   met : ℕ → ℕ → Judged
   unmet : Judged
 
--- met with the lowest node and the number, if there is a node
-abbrev pub judgedOn : Bool → ℕ → ℕ → Judged
-judgedOn true lowest number = met lowest number
-judgedOn false lowest number = unmet
+-- met with the lowest of the numbers below n that pass a test and with how many pass, if one does
+abbrev pub judgedIf : Bool → ℕ → (ℕ → Bool) → Judged
+judgedIf true n test = met (lowestBelow n test) (countBelow n test)
+judgedIf false n test = unmet
 
 -- what is found of a test on the numbers below n: met if some number passes
 unfoldable pub judgedBy : ℕ → (ℕ → Bool) → Judged
-judgedBy n test = judgedOn (someBelow n test) (lowestBelow n test) (countBelow n test)
+judgedBy n test = judgedIf (someBelow n test) n test
 
 -- what is found of an expression: the nodes are those at which it holds
 abbrev pub judgedOf : Finite → NExp → Judged
@@ -91,11 +91,11 @@ module _ (F : Finite) (ok : Named F) (φ : NExp) where
   node-fails u l f = fails-so (test u) (λ e. f (holds-node u l .0 e))
 
   -- what is found is so
-  pub finding-says : Says F ok φ (judgedOf F φ)
+  finding-says : Says F ok φ (judgedOf F φ)
   unfolding judgedBy
   finding-says = go (someBelow n test) refl
     where
-      go : (b : Bool) → someBelow n test ≡ b → Says F ok φ (judgedOn b (lowestBelow n test) (countBelow n test))
+      go : (b : Bool) → someBelow n test ≡ b → Says F ok φ (judgedIf b n test)
       go true e =
           let r = some-found test n e in
           let l = lowest-below n test (r .0) (r .1) (r .2) in (

@@ -1,3 +1,4 @@
 -- In the order of reading.
 pub mod Decision
 pub mod Judged
+pub mod Root

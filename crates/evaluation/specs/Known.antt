@@ -16,8 +16,9 @@ use Rattle.nodeset.specs.Stored.{tableBytes, setAt, put, put-same, put-other}
 use Rattle.pattern.specs.declared.table.Sort.{Sort}
 use Rattle.pattern.specs.File.Reading.{countOf, sortAt}
 use Rattle.pattern.specs.Logic.Finite.{Finite, Named}
+use Rattle.decision.specs.Root.{root-holds}
 use Rattle.evaluation.specs.Tables.{IsSet, Tabled, Alike}
-use Rattle.evaluation.specs.Standing.{Lent, Standing, slotOf, Holding, Known, Evaluates}
+use Rattle.evaluation.specs.Standing.{Lent, Standing, slotOf, Holding, Known, Evaluates, RootNodes}
 use Rattle.evaluation.specs.Evaluated.{lent-valid}
 
 -- the area holds the set of every node entry below the bound, in each model that the tables stand for
@@ -60,10 +61,11 @@ knows-none bs table alike area F ok tabled values j l n = absurd (not-suc-le-zer
 
 -- the root is the last entry, and its set is known
 pub root-known : {bs table alike area : List ℕ} → Lent bs table alike area → (after : List ℕ) → Knows bs table alike after (countOf bs)
-    → Evaluates bs table alike area 0 (countOf bs - 1) (setAt after (slotOf bs (countOf bs - 1)))
-root-known {bs} lent after knows w =
+    → RootNodes bs table alike area (setAt after (slotOf bs (countOf bs - 1)))
+root-known {bs} lent after knows w u =
     let ok = lent-valid lent in
-    knows (w .model) (w .named) (w .tabled) (w .alike-is) (countOf bs - 1) (omega (arith, ok .header .some-entry)) (ok .root-node)
+    root-holds bs (w .model) (w .named) u _
+    (knows (w .model) (w .named) (w .tabled) (w .alike-is) (countOf bs - 1) (omega (arith, ok .header .some-entry)) (ok .root-node) u)
 
 -- what is lent, with an area of the same length
 pub lent-again : {bs table alike area : List ℕ} → Lent bs table alike area → (area′ : List ℕ) → length area′ ≡ length area

@@ -5,6 +5,7 @@ use mathlib.Core.List.{List}
 use Prim.Native.Nat.{ℕ, _+_, _≤_, _<_}
 use lib.ListN.{length}
 use Rattle.nodeset.specs.declared.NodeSet.{NodeSet}
+use Rattle.nodeset.specs.Set.{has}
 use Rattle.nodeset.specs.Stored.{tableBytes, setAt}
 use Rattle.pattern.specs.declared.table.Sort.{Sort}
 use Rattle.pattern.specs.Checks.Finding.{found}
@@ -13,6 +14,7 @@ use Rattle.pattern.specs.File.Entries.{maxEntries}
 use Rattle.pattern.specs.File.Reading.{countOf, sortAt, readingOf}
 use Rattle.pattern.specs.Logic.Finite.{Finite, Named, NodeOf, modelOf, namingOf}
 use Rattle.pattern.specs.Meaning.Agreement.{HoldsAt, LeadsAt}
+use Rattle.decision.specs.Root.{rootHolds}
 use Rattle.evaluation.specs.Tables.{IsSet, Tabled, Alike, modelRows, alikeRows}
 
 -- where the set of entry k stands in the area, and the bytes of all: a set for each number that an entry can have
@@ -57,6 +59,10 @@ pub record Standing (bs table alike area : List ℕ) (known : ℕ) : Type 0 wher
 abbrev pub Evaluates : (bs table alike area : List ℕ) → ℕ → ℕ → NodeSet → Type 0
 Evaluates bs table alike area known k s =
     (w : Standing bs table alike area known) → IsSet (w .model) (Holding (w .model) (w .named) bs k) s
+
+-- what the set of the root has of every number, in each such model
+abbrev pub RootNodes : (bs table alike area : List ℕ) → NodeSet → Type 0
+RootNodes bs table alike area s = (w : Standing bs table alike area 0) (u : ℕ) → has s u ≡ rootHolds bs (w .model) u
 
 -- the set of the nodes to which path reference k leads from node u
 abbrev pub Ends : (bs table alike area : List ℕ) → ℕ → ℕ → ℕ → NodeSet → Type 0

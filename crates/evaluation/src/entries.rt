@@ -29,7 +29,7 @@ ghost use Rattle.pattern.specs.declared.table.Sort.{Sort};
 ghost use Rattle.pattern.specs.File.Entries.{entryAt};
 ghost use Rattle.pattern.specs.File.Reading.{countOf, sortAt};
 ghost use Rattle.pattern.specs.File.Valid.{EarlierPath};
-ghost use Rattle.evaluation.specs.Standing.{pendingBytes, Lent, Standing, Evaluates, Ends};
+ghost use Rattle.evaluation.specs.Standing.{pendingBytes, Lent, Standing, Evaluates, RootNodes, Ends};
 ghost use Rattle.evaluation.specs.Sweep.{addTo, entriesSwept};
 ghost use Rattle.evaluation.specs.SweepEntry.{EntrySwept};
 ghost use Rattle.evaluation.specs.Kinds.{comparing};
@@ -230,7 +230,7 @@ fn evaluate_all(p: &[u8], table: &[u8], alike: &[u8], area: &mut [u8])
 pub fn root_nodes(p: &[u8], table: &[u8], alike: &[u8], area: &mut [u8]) -> NodeSet
     requires { ⌜ Lent (now p) (now table) (now alike) (now area) ⌝ }
     requires { ⌜ Standing (now p) (now table) (now alike) (now area) 0 ⌝ }
-    ensures root { λ r. ⌜ Evaluates (now (p .entry)) (now (table .entry)) (now (alike .entry)) (now (area .entry)) 0 (countOf (now (p .entry)) - 1) r ⌝ }
+    ensures root { λ r. ⌜ RootNodes (now (p .entry)) (now (table .entry)) (now (alike .entry)) (now (area .entry)) r ⌝ }
     ensures area { λ _. ⌜ now (area .exit) ≡ replicate (length (now (area .entry))) 0 ⌝ }
 {
     evaluate_all(p, table, alike, area);

@@ -15,7 +15,7 @@ use Rattle.pattern.specs.File.Reading as reading
 use Rattle.pattern.specs.File.Reading.{countOf, patternCheck, readingOf}
 use Rattle.pattern.specs.File.Valid as pattern
 use Rattle.nodeset.specs.Below.{lowestBelow, countBelow, lowest-le}
-use Rattle.decision.specs.Judged.{Judged, met, unmet, judgedOn, judgedBy}
+use Rattle.decision.specs.Judged.{Judged, met, unmet, judgedIf, judgedBy}
 use Rattle.model_file.specs.Layout.{nodeCount, nameCount, edgeCount}
 use Rattle.model_file.specs.Checks as file
 use Rattle.model_file.specs.Valid as file-valid
@@ -136,7 +136,7 @@ judged-narrow : (n : ℕ) (test : ℕ → Bool) → Narrow n → NarrowJudged (j
 unfolding judgedBy
 judged-narrow n test l = go (someBelow n test)
   where
-    go : (b : Bool) → NarrowJudged (judgedOn b (lowestBelow n test) (countBelow n test))
+    go : (b : Bool) → NarrowJudged (judgedIf b n test)
     go true = (lt-of-le-of-lt (lowest-le n test) l, lt-of-le-of-lt (count-le n test) l)
     go false = tt
 

@@ -18,10 +18,10 @@ use Rattle.decision.specs.Judged.{Judged, met, unmet, judgedBy, judgedOf, Says,
 use Rattle.pattern.specs.File.Reading as reading
 use Rattle.model_file.specs.Checks as file
 use Rattle.model_file.specs.Layout.{nodeCount}
+use Rattle.decision.specs.Root.{rootHolds}
 use Rattle.model_file.specs.Contents.{modelFrom}
 use Rattle.model_file.specs.Checks.{modelCheck}
 use Rattle.model_file.specs.Valid.{ValidModel, model-valid, model-accepted, all-named}
-use Rattle.model_tables.specs.Root.{rootHolds}
 use Rattle.model.specs.declared.judge.JudgeRefusal.{JudgeRefusal}
 use Rattle.model.specs.declared.judge.JudgeCheck.{JudgeCheck}
 use Rattle.model.specs.declared.judge.ModelFinding.{ModelFinding}
@@ -53,6 +53,7 @@ pub record Judgement (bs ds : List ℕ) (size : ℕ) (j : Judged) : Type 0 where
   pub pattern-valid : Valid bs (countOf bs)
   pub area-long : areaNeed bs ≤ size
   pub model-valid : ValidModel ds
+  -- `all-named` is the proof that every name has a node; nothing depends on which proof it is
   pub says : Says (modelFrom ds) (all-named model-valid) (rootOf bs) j
 
 -- the code's answers, by 01's numbers and values
@@ -115,7 +116,7 @@ judging-says bs ds size j = (apart, together)
         (ap found (judged-says (modelFrom ds) (all-named (h .model-valid)) (rootOf bs) j .1 (h .says)))
 
 -- a set that has the nodes where the root holds, and no other number, is judged as the definition says
-pub root-judged : (bs : List ℕ) {ds : List ℕ} (ok : ValidModel ds) (s : NodeSet) → ((u : ℕ) → has s u ≡ rootHolds bs ds u)
+pub root-judged : (bs : List ℕ) {ds : List ℕ} (ok : ValidModel ds) (s : NodeSet) → ((u : ℕ) → has s u ≡ rootHolds bs (modelFrom ds) u)
     → judgedBy width (has s) ≡ judgedOf (modelFrom ds) (rootOf bs)
 unfolding rootHolds
 root-judged bs {ds} ok s same =

@@ -1,3 +1,3 @@
--- `Tables` is what the tables are proved by, `Root` what this crate promises.
+-- What the tables are proved by.
 pub mod Tables
-pub mod Root
+pub mod Stands

@@ -29,12 +29,12 @@ ghost use Rattle.nodeset.specs.Stored.{tableBytes, setAt};
 ghost use Rattle.pattern.specs.Checks.Finding.{found};
 ghost use Rattle.pattern.specs.File.Types.{maxProperty, maxChannel};
 ghost use Rattle.pattern.specs.File.Reading.{countOf, readingOf};
+ghost use Rattle.decision.specs.Root.{rootHolds};
 ghost use Rattle.evaluation.specs.Tables.{propertyRow, modelRows, alikeRow, alikeRows, IsSet, Tabled, Alike};
 ghost use Rattle.evaluation.specs.Standing.{areaBytes};
 ghost use Rattle.model_file.specs.Layout.{nodeCount, edgeCount, valueOn};
 ghost use Rattle.model_file.specs.Contents.{hasProperty, modelFrom};
 ghost use Rattle.model_file.specs.Valid.{ValidModel};
-ghost use Rattle.model_tables.specs.Root.{rootHolds};
 ghost use Rattle.model_tables.specs.Tables.{WithProperty, AlikeTo, linkOf, Filled, NamesAtZero, NamesListed, Linked};
 
 // The nodes that have property p.
@@ -191,7 +191,7 @@ pub fn root_nodes(p: &[u8], d: &[u8], work: &mut [u8]) -> NodeSet
     requires { ⌜ readingOf (now p) ≡ found (countOf (now p)) ⌝ }
     requires { ⌜ ValidModel (now d) ⌝ }
     requires { ⌜ areaBytes (now p) ≤ length (now work) ⌝ }
-    ensures nodes { λ r. ⌜ ((u : ℕ) → has r u ≡ rootHolds (now (p .entry)) (now (d .entry)) u) ⌝ }
+    ensures nodes { λ r. ⌜ ((u : ℕ) → has r u ≡ rootHolds (now (p .entry)) (modelFrom (now (d .entry))) u) ⌝ }
     ensures work { λ _. ⌜ now (work .exit) ≡ replicate (length (now (work .entry))) 0 ⌝ }
 {
     let mut table = [0u8; TABLE_BYTES];

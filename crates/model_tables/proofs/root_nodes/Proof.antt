@@ -3,7 +3,7 @@
 use borrow.Author.Needs.{needs}
 use Rattle.nodeset.specs.Stored.{tableBytes, has-zeros}
 use Rattle.evaluation.specs.Tables.{modelRows}
-use Rattle.model_tables.specs.Root.{stands, has-root}
+use Rattle.model_tables.specs.Stands.{stands}
 use Rattle.model_tables.proofs.root_nodes.Statement.{statement}
 use Rattle.model_tables.proofs.root_nodes.Tie as tie
 
@@ -47,7 +47,7 @@ returns c =
     let s = t .before .before .before .before .before in
     let bs = s .args .p .now in
     let ok = s .pre .1 .0 in (
-      has-root bs ok (n .root-nodes .result) (n .root-nodes .ensures .0 (stands bs ok _ _ _ (t .tabulate .ensures) (v .tabulate-values .ensures))),
+      n .root-nodes .ensures .0 (stands bs ok _ _ _ (t .tabulate .ensures) (v .tabulate-values .ensures)),
       n .root-nodes .ensures .1,
     )
 
