@@ -14,7 +14,7 @@ use Rattle.rules.specs.declared.conclusion.Conclusion.{Conclusion}
 use Rattle.rules.specs.Sides.{sides}
 use Rattle.lines.specs.Lines.{has}
 use Rattle.lines.specs.Stored.{lineAt, linesFrom, putLine}
-use Rattle.steps.specs.Standing.{Standing}
+use Rattle.steps.specs.AtStep.{AtStep}
 use Rattle.steps.specs.Steps.{stepAt, stepsFrom, stepping}
 use Rattle.tableau.specs.declared.finding.Counts.{Counts}
 use Rattle.tableau.specs.declared.finding.Closed.{Closed}
@@ -58,8 +58,8 @@ advanceOf k len Conclusion.Clash = Advance.Stopped (Stop.Clash k len)
 -- ---- the walk
 
 -- What the walk is lent: a pattern of n entries, the bytes of s steps of which the next is step k, and an area with a branch of len lines.
-pub record Lent (bs : List ℕ) (n : ℕ) (ss : List ℕ) (s : ℕ) (xs : List ℕ) (k len : ℕ) : Type 0 where
-  pub standing : Standing bs n xs len
+pub record WalkLent (bs : List ℕ) (n : ℕ) (ss : List ℕ) (s : ℕ) (xs : List ℕ) (k len : ℕ) : Type 0 where
+  pub standing : AtStep bs n xs len
   pub steps-long : length ss ≡ 6 * s
   pub few-steps : s ≤ maxSteps
   pub area-long : length xs ≡ areaNeed
@@ -76,7 +76,7 @@ Leaves xs len ys = (j : ℕ) → j < len → lineAt ys j ≡ lineAt xs j
 
 -- From step k and the branch of len lines in xs, steps that add lines lead to step k′ and the branch of len′ lines in ys.
 pub record Onto (bs : List ℕ) (n : ℕ) (ss : List ℕ) (s : ℕ) (xs : List ℕ) (k len : ℕ) (ys : List ℕ) (k′ len′ : ℕ) : Type 0 where
-  pub lent : Lent bs n ss s ys k′ len′
+  pub lent : WalkLent bs n ss s ys k′ len′
   pub later : k ≤ k′
   pub longer : len ≤ len′
   pub leaves : Leaves xs len ys

@@ -35,7 +35,7 @@ use Rattle.tableau.specs.Run.{run, maxLines, maxWaiting, longest, further, limi
 use Rattle.tableau.specs.RunCloses.{same-counts}
 use Rattle.tableau.specs.Judging.{maxSteps, areaNeed, closedBy, clears, areaAfter, walkNumber}
 use Rattle.rules.specs.Sides.{sides}
-use Rattle.branch_walk.specs.Walk.{countClash, countFork, putLines, pushed, advanceOf, Lent, remaining, Leaves, Onto, StepConcludes, StopSays, Stops, Advances, Bounded, ClosedAt, WalkSays, Walks, finishedIf, finished}
+use Rattle.branch_walk.specs.Walk.{countClash, countFork, putLines, pushed, advanceOf, WalkLent, remaining, Leaves, Onto, StepConcludes, StopSays, Stops, Advances, Bounded, ClosedAt, WalkSays, Walks, finishedIf, finished}
 
 -- ---- the counts
 
@@ -167,7 +167,7 @@ module _ {bs : List ℕ} {n : ℕ} {ss : List ℕ} {s : ℕ} where
   -- ---- what the walk is lent, as lines are added
 
   -- what a step concludes is formed
-  concludes-formed : {xs : List ℕ} {k len : ℕ} → Lent bs n ss s xs k len → (con : Conclusion)
+  concludes-formed : {xs : List ℕ} {k len : ℕ} → WalkLent bs n ss s xs k len → (con : Conclusion)
       → stepping bs (linesFrom xs 0 len) (stepAt ss k) k ≡ found con → FormedConclusion bs n con
   concludes-formed {xs} {k} {len} lent con e =
       let b = linesFrom xs 0 len in
@@ -176,8 +176,8 @@ module _ {bs : List ℕ} {n : ℕ} {ss : List ℕ} {s : ℕ} where
       (found-follows bs b (stepAt ss k) con k e)
 
   -- other bytes with the same lines, and another step
-  lent-kept : {xs : List ℕ} {k len : ℕ} → Lent bs n ss s xs k len → (ys : List ℕ) (k′ : ℕ)
-      → length ys ≡ length xs → Leaves xs len ys → k′ ≤ s → Lent bs n ss s ys k′ len
+  lent-kept : {xs : List ℕ} {k len : ℕ} → WalkLent bs n ss s xs k len → (ys : List ℕ) (k′ : ℕ)
+      → length ys ≡ length xs → Leaves xs len ys → k′ ≤ s → WalkLent bs n ss s ys k′ len
   lent-kept {xs} {k} {len} lent ys k′ same leaves left =
       record {
         standing = record {
@@ -194,8 +194,8 @@ module _ {bs : List ℕ} {n : ℕ} {ss : List ℕ} {s : ℕ} where
       }
 
   -- a line more, and another step
-  lent-more : {xs : List ℕ} {k len : ℕ} → Lent bs n ss s xs k len → (l : Line) (k′ : ℕ)
-      → Formed bs n l → len < maxLines → k′ ≤ s → Lent bs n ss s (putLine xs len l) k′ (len + 1)
+  lent-more : {xs : List ℕ} {k len : ℕ} → WalkLent bs n ss s xs k len → (l : Line) (k′ : ℕ)
+      → Formed bs n l → len < maxLines → k′ ≤ s → WalkLent bs n ss s (putLine xs len l) k′ (len + 1)
   lent-more {xs} {k} {len} lent l k′ f m left =
       record {
         standing = record {
@@ -225,12 +225,12 @@ module _ {bs : List ℕ} {n : ℕ} {ss : List ℕ} {s : ℕ} where
           subst (λ (m : ℕ). Formed bs n (lineAt (putLine xs len l) m)) (sym q) (subst (Formed bs n) (sym (put-same xs len l fits)) f)
 
   -- several lines more
-  lent-lines : {xs : List ℕ} {k len : ℕ} → Lent bs n ss s xs k len → (new : List Line) (k′ : ℕ)
-      → AllFormed bs n new → len + length new ≤ maxLines → k′ ≤ s → Lent bs n ss s (putLines xs len new) k′ (len + length new)
+  lent-lines : {xs : List ℕ} {k len : ℕ} → WalkLent bs n ss s xs k len → (new : List Line) (k′ : ℕ)
+      → AllFormed bs n new → len + length new ≤ maxLines → k′ ≤ s → WalkLent bs n ss s (putLines xs len new) k′ (len + length new)
   lent-lines {xs} {k} {len} lent [] k′ f m left =
-      subst (Lent bs n ss s xs k′) (sym (add-zero len)) (lent-kept lent xs k′ refl (λ j i. refl) left)
+      subst (WalkLent bs n ss s xs k′) (sym (add-zero len)) (lent-kept lent xs k′ refl (λ j i. refl) left)
   lent-lines {xs} {k} {len} lent (l ∷ ls) k′ f m left =
-      subst (Lent bs n ss s (putLines (putLine xs len l) (len + 1) ls) k′) place
+      subst (WalkLent bs n ss s (putLines (putLine xs len l) (len + 1) ls) k′) place
       (lent-lines (lent-more lent l k′ (f .0) (omega (arith, m)) left) ls k′ (f .1) (omega (arith, m)) left)
     where
       place : len + 1 + length ls ≡ len + suc (length ls)
@@ -239,7 +239,7 @@ module _ {bs : List ℕ} {n : ℕ} {ss : List ℕ} {s : ℕ} where
   -- ---- one step
 
   -- nothing is done
-  onto-here : {xs : List ℕ} {k len : ℕ} → Lent bs n ss s xs k len → Onto bs n ss s xs k len xs k len
+  onto-here : {xs : List ℕ} {k len : ℕ} → WalkLent bs n ss s xs k len → Onto bs n ss s xs k len xs k len
   onto-here {len = len} lent =
       record { lent = lent; later = le-refl _; longer = le-refl len; leaves = λ j l. refl; same = λ ws c. refl }
 
@@ -256,7 +256,7 @@ module _ {bs : List ℕ} {n : ℕ} {ss : List ℕ} {s : ℕ} where
       }
 
   -- a step that goes on with one side
-  onto-side : {xs : List ℕ} {k len : ℕ} → Lent bs n ss s xs k len → (con : Conclusion) (new : List Line) → sides con ≡ new ∷ []
+  onto-side : {xs : List ℕ} {k len : ℕ} → WalkLent bs n ss s xs k len → (con : Conclusion) (new : List Line) → sides con ≡ new ∷ []
       → StepConcludes bs ss s xs k len con → len + length new ≤ maxLines → Onto bs n ss s xs k len (putLines xs len new) (k + 1) (len + length new)
   onto-side {xs} {k} {len} lent con new one h m =
       record {
@@ -277,7 +277,7 @@ module _ {bs : List ℕ} {n : ℕ} {ss : List ℕ} {s : ℕ} where
       formed = subst (EachFormed bs n) one (concludes-formed lent con (h .1))
 
   -- a step that follows its rule and keeps to 1,024 lines
-  pub step-concludes : {xs : List ℕ} {k len : ℕ} → Lent bs n ss s xs k len → (con : Conclusion)
+  pub step-concludes : {xs : List ℕ} {k len : ℕ} → WalkLent bs n ss s xs k len → (con : Conclusion)
       → StepConcludes bs ss s xs k len con → len + longest (sides con) ≤ maxLines
       → Advances bs n ss s xs k len (advanceOf k len con) (pushed xs len con)
   step-concludes lent (Conclusion.One l) h m = record { says = onto-side lent (Conclusion.One l) (l ∷ []) refl h m }
@@ -287,7 +287,7 @@ module _ {bs : List ℕ} {n : ℕ} {ss : List ℕ} {s : ℕ} where
   step-concludes lent Conclusion.Clash h m = record { says = record { says = (onto-here lent, h) } }
 
   -- a step over the limit, and one that is refused by its rule
-  pub step-long : {xs : List ℕ} {k len : ℕ} → Lent bs n ss s xs k len → (con : Conclusion)
+  pub step-long : {xs : List ℕ} {k len : ℕ} → WalkLent bs n ss s xs k len → (con : Conclusion)
       → StepConcludes bs ss s xs k len con → maxLines < len + longest (sides con) → {ys : List ℕ}
       → Advances bs n ss s xs k len (Advance.Stopped (Stop.Refused (WalkRefusal.Lines k))) ys
   step-long {xs} {k} {len} lent con h m =
@@ -296,7 +296,7 @@ module _ {bs : List ℕ} {n : ℕ} {ss : List ℕ} {s : ℕ} where
             record { says = λ ws c. run-long bs ss s k (linesFrom xs 0 len) ws c con (h .0) (h .1) (rw (length-lines xs 0 len) m) };
       }
 
-  pub step-refused : {xs : List ℕ} {k len : ℕ} → Lent bs n ss s xs k len
+  pub step-refused : {xs : List ℕ} {k len : ℕ} → WalkLent bs n ss s xs k len
       → (answer : StepAnswer) (refusal : StepRefusal) → answer ≡ StepAnswer.Refused refusal → k < s
       → answerOf answer ≡ stepping bs (linesFrom xs 0 len) (stepAt ss k) k → {ys : List ℕ}
       → Advances bs n ss s xs k len (Advance.Stopped (Stop.Refused (WalkRefusal.Step refusal))) ys
@@ -377,7 +377,7 @@ module _ {bs : List ℕ} {n : ℕ} {ss : List ℕ} {s : ℕ} where
 
   -- the left side is lent the branch with its line
   pub left-lent : {xs : List ℕ} {k len : ℕ} {k′ len′ : ℕ} {l r : Line} {ys : List ℕ}
-      → Stops bs n ss s xs k len (Stop.Fork k′ len′ l r) ys → Lent bs n ss s (putLine ys len′ l) (k′ + 1) (len′ + 1)
+      → Stops bs n ss s xs k len (Stop.Fork k′ len′ l r) ys → WalkLent bs n ss s (putLine ys len′ l) (k′ + 1) (len′ + 1)
   left-lent {k′ = k′} {l = l} {r = r} h =
       let lent = h .says .0 .lent in
       let concludes = h .says .1 .0 in
@@ -398,7 +398,7 @@ module _ {bs : List ℕ} {n : ℕ} {ss : List ℕ} {s : ℕ} where
   pub right-lent : {xs : List ℕ} {k len : ℕ} {k′ len′ : ℕ} {l r : Line} {ys : List ℕ}
       → Stops bs n ss s xs k len (Stop.Fork k′ len′ l r) ys → {waiting : ℕ} {c : Counts} {next : ℕ} {c′ : Counts} {zs : List ℕ}
       → Walks bs ss s (putLine ys len′ l) (k′ + 1) (len′ + 1) waiting c (BranchEnd.Closed next c′) zs → length zs ≡ length ys
-      → Lent bs n ss s (putLine zs len′ r) next (len′ + 1)
+      → WalkLent bs n ss s (putLine zs len′ r) next (len′ + 1)
   right-lent {len′ = len′} {l = l} {r = r} {ys = ys} h {next = next} {zs = zs} left e =
       let lent = h .says .0 .lent in
       let closed = left .says in
@@ -476,7 +476,7 @@ module _ {bs : List ℕ} {n : ℕ} {ss : List ℕ} {s : ℕ} where
 
 -- "Line 0 is: start name has the root": what the walk is lent at first
 pub first-lent : {bs : List ℕ} {n : ℕ} {ss : List ℕ} {s : ℕ} (xs : List ℕ) (i : Name) → readingOf bs ≡ found n → length ss ≡ 6 * s → s ≤ maxSteps
-    → length xs ≡ areaNeed → Lent bs n ss s (putLine xs 0 (has Sign.Positive i (n - 1))) 0 1
+    → length xs ≡ areaNeed → WalkLent bs n ss s (putLine xs 0 (has Sign.Positive i (n - 1))) 0 1
 first-lent {bs} {n} {ss} {s} xs i read long few room =
     record {
       standing = record {

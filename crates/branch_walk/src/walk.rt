@@ -28,7 +28,7 @@ ghost use Rattle.branch_walk.specs.declared.walk.Advance.{Advance};
 ghost use Rattle.rules.specs.Sides.{sides};
 ghost use Rattle.tableau.specs.Run.{longest, maxLines, maxWaiting};
 ghost use Rattle.tableau.specs.Judging.{maxSteps, areaNeed, areaAfter, findingOf};
-ghost use Rattle.branch_walk.specs.Walk.{Bounded, Lent, countClash, countFork, advanceOf, pushed, Advances, Stops, Walks, finished, stepsFound};
+ghost use Rattle.branch_walk.specs.Walk.{Bounded, WalkLent, countClash, countFork, advanceOf, pushed, Advances, Stops, Walks, finished, stepsFound};
 
 // Document 01's bounds: the lines of a branch, and the right sides that wait.
 const MAX_LINES: u16 = 1024;
@@ -111,7 +111,7 @@ fn extend(area: &mut [u8], c: Conclusion, k: u16, len: u16) -> Advance
 
 // Checks step k on a branch of so many lines, and adds its lines.
 fn take_step(p: &[u8], n: u8, steps: &[u8], s: u16, area: &mut [u8], k: u16, len: u16) -> Advance
-    requires { ⌜ Lent (now p) n (now steps) s (now area) k len ⌝ }
+    requires { ⌜ WalkLent (now p) n (now steps) s (now area) k len ⌝ }
     requires { ⌜ k < s ⌝ }
     ensures { λ r. ⌜ Advances (now (p .entry)) n (now (steps .entry)) s (now (area .entry)) k len r (now (area .exit)) ⌝ }
 {
@@ -133,7 +133,7 @@ fn take_step(p: &[u8], n: u8, steps: &[u8], s: u16, area: &mut [u8], k: u16, len
 // Checks the steps from step k on that add lines to a branch of so many lines, up to the clash or fork
 // or refusal that ends them.
 fn straight(p: &[u8], n: u8, steps: &[u8], s: u16, area: &mut [u8], k: u16, len: u16) -> Stop
-    requires { ⌜ Lent (now p) n (now steps) s (now area) k len ⌝ }
+    requires { ⌜ WalkLent (now p) n (now steps) s (now area) k len ⌝ }
     ensures { λ r. ⌜ Stops (now (p .entry)) n (now (steps .entry)) s (now (area .entry)) k len r (now (area .exit)) ⌝ }
 {
     let mut i = k;
@@ -198,7 +198,7 @@ fn walk(
     waiting: u8,
     counts: Counts,
 ) -> BranchEnd
-    requires { ⌜ Lent (now p) n (now steps) s (now area) k len ⌝ }
+    requires { ⌜ WalkLent (now p) n (now steps) s (now area) k len ⌝ }
     requires { ⌜ waiting ≤ maxWaiting ⌝ }
     requires { ⌜ Bounded k counts ⌝ }
     ensures { λ r. ⌜ Walks (now (p .entry)) (now (steps .entry)) s (now (area .entry)) k len waiting counts r (now (area .exit)) ⌝ }

@@ -21,7 +21,7 @@ use Rattle.pattern.specs.File.Entries.{HasEntry, entryAt}
 use Rattle.pattern.specs.File.Reading.{countOf, sortAt}
 use Rattle.pattern.specs.File.Valid.{Valid, EarlierNode, EarlierPath, valid}
 use Rattle.evaluation.specs.declared.kinds.NodeKind.{NodeKind}
-use Rattle.evaluation.specs.Kinds.{nodeKindOf, comparing, IsNodeKind, node-kind-is}
+use Rattle.evaluation.specs.Kinds.{nodeKindOf, comparisonKind, IsNodeKind, node-kind-is}
 use Rattle.evaluation.specs.Tables.{propertyRow, nameRow, nodesRow}
 use Rattle.evaluation.specs.Members.{Collected, collected-none, collected-next, collected-all}
 use Rattle.evaluation.specs.Standing.{slotOf, Lent, Standing, Evaluates, Ends}
@@ -79,7 +79,7 @@ module _ {bs table alike area : List ℕ} {k : ℕ} {e : Entry} {kind : NodeKind
   pub after-refers : kind ≡ NodeKind.After → EarlierNode bs k (e .y)
   after-refers is = rw (n .same) (refers-as ok k (n .within) Kind.After (kind-is NodeKind.After is) .1)
 
-  pub compares : (c : Comparison) → kind ≡ NodeKind.Compare c → entryAt bs k .kind ≡ comparing c
+  pub compares : (c : Comparison) → kind ≡ NodeKind.Compare c → entryAt bs k .kind ≡ comparisonKind c
   compares c is = kind-is (NodeKind.Compare c) is
 
   module _ (known : ℕ) where
@@ -110,8 +110,8 @@ module _ {bs table alike area : List ℕ} {k : ℕ} {e : Entry} {kind : NodeKind
 
 -- a comparison
 module _ {bs table alike area : List ℕ} (lent : Lent bs table alike area) (k : ℕ) (l : k < countOf bs) (c : Comparison)
-    (kind : entryAt bs k .kind ≡ comparing c) where
-  fields : (d : Comparison) → entryAt bs k .kind ≡ comparing d
+    (kind : entryAt bs k .kind ≡ comparisonKind c) where
+  fields : (d : Comparison) → entryAt bs k .kind ≡ comparisonKind d
       → (entryAt bs k .x ≤ maxChannel) × EarlierPath bs k (entryAt bs k .y) × EarlierPath bs k (entryAt bs k .z)
   fields Comparison.Same h =
       let r = refers-as (lent-valid lent) k l Kind.Same h in (within-as (lent-valid lent) k l Kind.Same h .0, r .1, r .2)

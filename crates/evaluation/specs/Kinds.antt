@@ -37,9 +37,9 @@ pathKindOf Kind.Differ = PathKind.NoPath
 pathKindOf Kind.Unknown = PathKind.NoPath
 
 -- the kind of a comparison
-abbrev pub comparing : Comparison → Kind
-comparing Comparison.Same = Kind.Same
-comparing Comparison.Differ = Kind.Differ
+abbrev pub comparisonKind : Comparison → Kind
+comparisonKind Comparison.Same = Kind.Same
+comparisonKind Comparison.Differ = Kind.Differ
 
 -- what each says of the kind itself
 abbrev pub IsNodeKind : NodeKind → Kind → Type 0
@@ -48,7 +48,7 @@ IsNodeKind NodeKind.Name κ = κ ≡ Kind.Name
 IsNodeKind NodeKind.Not κ = κ ≡ Kind.Not
 IsNodeKind NodeKind.Both κ = κ ≡ Kind.Both
 IsNodeKind NodeKind.After κ = κ ≡ Kind.After
-IsNodeKind (NodeKind.Compare c) κ = κ ≡ comparing c
+IsNodeKind (NodeKind.Compare c) κ = κ ≡ comparisonKind c
 IsNodeKind NodeKind.NoNode κ = sortOf κ ≡ Sort.Node → ⊥
 
 abbrev pub IsPathKind : PathKind → Kind → Type 0

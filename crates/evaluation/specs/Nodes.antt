@@ -21,7 +21,7 @@ use Rattle.pattern.specs.Logic.Finite.{Finite, Named, NodeOf, node-same, modelO
 use Rattle.evaluation.specs.Tables.{IsSet, Tabled, Alike, successorsRow, propertyRow, nameRow, nodesRow, alikeRow}
 use Rattle.evaluation.specs.Standing.{Holding, Leading, Standing, Ends}
 use Rattle.evaluation.specs.Entries.{within-as, node-clause}
-use Rattle.evaluation.specs.Kinds.{comparing}
+use Rattle.evaluation.specs.Kinds.{comparisonKind}
 
 -- the nodes that have a successor in the set
 abbrev pub Before : List ℕ → ℕ → NodeSet → ℕ → Type 0
@@ -171,12 +171,12 @@ module _ (F : Finite) (ok : Named F) {bs : List ℕ} {n : ℕ} (valid : Valid bs
 
 module _ (F : Finite) (ok : Named F) {bs : List ℕ} {n : ℕ} (valid : Valid bs n) (k : ℕ) (l : k < n) where
   -- "Same (differ) holds at u if some end of α and some end of β from u have equal (unequal) values on the channel."
-  compare-clause : (c : Comparison) → entryAt bs k .kind ≡ comparing c → (u : NodeOf F)
+  compare-clause : (c : Comparison) → entryAt bs k .kind ≡ comparisonKind c → (u : NodeOf F)
       → Holding F ok bs k u ↔ Comparing F ok bs c (entryAt bs k .x) (entryAt bs k .y) (entryAt bs k .z) u
   compare-clause Comparison.Same kind u = node-clause valid k l Kind.Same kind F ok refl u
   compare-clause Comparison.Differ kind u = node-clause valid k l Kind.Differ kind F ok refl u
 
-  pub nodes-compare : (s : NodeSet) (c : Comparison) → entryAt bs k .kind ≡ comparing c
+  pub nodes-compare : (s : NodeSet) (c : Comparison) → entryAt bs k .kind ≡ comparisonKind c
       → IsSet F (Comparing F ok bs c (entryAt bs k .x) (entryAt bs k .y) (entryAt bs k .z)) s → IsSet F (Holding F ok bs k) s
   nodes-compare s c kind set =
       set-as F (Holding F ok bs k) (Comparing F ok bs c (entryAt bs k .x) (entryAt bs k .y) (entryAt bs k .z)) s (λ u. compare-clause c kind u) set

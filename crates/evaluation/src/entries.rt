@@ -32,7 +32,7 @@ ghost use Rattle.pattern.specs.File.Valid.{EarlierPath};
 ghost use Rattle.evaluation.specs.Standing.{pendingBytes, Lent, Standing, Evaluates, RootNodes, Ends};
 ghost use Rattle.evaluation.specs.Sweep.{addTo, entriesSwept};
 ghost use Rattle.evaluation.specs.SweepEntry.{EntrySwept};
-ghost use Rattle.evaluation.specs.Kinds.{comparing};
+ghost use Rattle.evaluation.specs.Kinds.{comparisonKind};
 ghost use Rattle.evaluation.specs.Nodes.{ComparesAt};
 ghost use Rattle.evaluation.specs.Known.{Knows, KnowsOneMore};
 
@@ -78,7 +78,7 @@ fn compare(
     c: Comparison,
 ) -> NodeSet
     requires { ⌜ Lent (now p) (now table) (now alike) (now area) ⌝ }
-    requires { ⌜ (k < countOf (now p)) × (entryAt (now p) k .kind ≡ comparing c) ⌝ }
+    requires { ⌜ (k < countOf (now p)) × (entryAt (now p) k .kind ≡ comparisonKind c) ⌝ }
     ensures { λ r. ⌜ Evaluates (now (p .entry)) (now (table .entry)) (now (alike .entry)) (now (area .entry)) known k r ⌝ }
 {
     let mut found = NodeSet::empty();
@@ -103,7 +103,7 @@ fn compares_at(
     u: u8,
 ) -> bool
     requires { ⌜ Lent (now p) (now table) (now alike) (now area) ⌝ }
-    requires { ⌜ (k < countOf (now p)) × (entryAt (now p) k .kind ≡ comparing c) ⌝ }
+    requires { ⌜ (k < countOf (now p)) × (entryAt (now p) k .kind ≡ comparisonKind c) ⌝ }
     requires { ⌜ u < width ⌝ }
     ensures { λ r. ⌜ ComparesAt (now (p .entry)) (now (table .entry)) (now (alike .entry)) (now (area .entry)) known k c u r ⌝ }
 {

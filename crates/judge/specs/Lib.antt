@@ -1,6 +1,6 @@
--- In the order of reading.
+-- In the order of reading: definitions, then what is proved of them.
 pub mod Promises
-pub mod Together
 pub mod Packed
-pub mod Narrow
 pub mod Unpacked
+pub mod Together
+pub mod Narrow

@@ -11,10 +11,11 @@ use lib.ListN.{length}
 use borrow.Author.Tests.{ltb-false}
 use Rattle.pattern.specs.Checks.Finding.{Finding, found, refused, Check, passes, refuses, refusesIf, _then_, unless, onward, thereupon, then-passes, refusesIf-passes}
 use Rattle.pattern.specs.Checks.Range.{someBelow, eachBelow}
+use Rattle.pattern.specs.File.Entries.{maxEntries}
 use Rattle.pattern.specs.File.Reading as reading
 use Rattle.pattern.specs.File.Reading.{countOf, patternCheck, readingOf}
 use Rattle.pattern.specs.File.Valid as pattern
-use Rattle.nodeset.specs.Below.{lowestBelow, countBelow, lowest-le}
+use Rattle.nodeset.specs.Below.{countBelow, lowest-le}
 use Rattle.decision.specs.Judged.{Judged, met, unmet, judgedIf, judgedBy}
 use Rattle.model_file.specs.Layout.{nodeCount, nameCount, edgeCount}
 use Rattle.model_file.specs.Checks as file
@@ -25,7 +26,7 @@ use Rattle.rules.specs.declared.conclusion.Conclusion.{Conclusion}
 use Rattle.rules.specs.declared.conclusion.Outcome.{Outcome}
 use Rattle.rules.specs.Sides.{sides}
 use Rattle.steps.specs.declared.step.Step.{Step}
-use Rattle.steps.specs.Steps.{stepsFrom, stepAt, fieldCheck, unlessStale, stepOutcome, isStale, stepping}
+use Rattle.steps.specs.Steps.{stepsFrom, stepAt, ruleFieldCheck, unlessStale, stepOutcome, isStale, stepping}
 use Rattle.tableau.specs.declared.finding.Counts.{Counts}
 use Rattle.tableau.specs.declared.finding.Closed.{Closed}
 use Rattle.tableau.specs.Run.{run, maxLines, longest, linesCheck, waitingCheck, limitsCheck, branches, counted, none}
@@ -107,7 +108,7 @@ module _ (bs : List ℕ) where
   unfolding reading.rootCheck
   root-narrow l = search (fault-narrow, lit<)
 
-  entries-narrow : countOf bs ≤ 255 → NarrowCheck (eachBelow (countOf bs) (reading.entryCheck bs) then reading.rootCheck bs)
+  entries-narrow : countOf bs ≤ maxEntries → NarrowCheck (eachBelow (countOf bs) (reading.entryCheck bs) then reading.rootCheck bs)
   entries-narrow few =
       then-narrow (eachBelow (countOf bs) (reading.entryCheck bs)) (reading.rootCheck bs)
       (each-narrow (countOf bs) (reading.entryCheck bs) (omega (arith, few)) entry-narrow)
@@ -197,7 +198,7 @@ module _ (bs : List ℕ) (b : List Line) (k : ℕ) (l : Narrow k) where
 
   step-narrow : (s : Step) → NarrowFinding Any (stepping bs b s k)
   unfolding stepping
-  step-narrow s = onward-narrow Any (fieldCheck b s k) _ (search (fault-then, fault-narrow, lit<)) (λ e. unless-stale-narrow (stepOutcome bs b s))
+  step-narrow s = onward-narrow Any (ruleFieldCheck b s k) _ (search (fault-then, fault-narrow, lit<)) (λ e. unless-stale-narrow (stepOutcome bs b s))
 
   limits-narrow : (waiting : ℕ) (c : Conclusion) → NarrowCheck (limitsCheck b waiting c k)
   limits-narrow waiting c = search (fault-then, fault-narrow, lit<)

@@ -58,14 +58,14 @@ pub record Judgement (bs ds : List ℕ) (size : ℕ) (j : Judged) : Type 0 where
 
 -- the code's answers, by 01's numbers and values
 abbrev pub refusalNumber : JudgeRefusal → ℕ
-refusalNumber (JudgeRefusal.Pattern refusal) = reading.numberOf refusal
+refusalNumber (JudgeRefusal.Pattern refusal) = reading.refusalNumber refusal
 refusalNumber JudgeRefusal.Area = 9
-refusalNumber (JudgeRefusal.Model refusal) = file.numberOf refusal
+refusalNumber (JudgeRefusal.Model refusal) = file.refusalNumber refusal
 
 abbrev pub refusalPlace : JudgeRefusal → ℕ
-refusalPlace (JudgeRefusal.Pattern refusal) = reading.placeOf refusal
+refusalPlace (JudgeRefusal.Pattern refusal) = reading.refusalPlace refusal
 refusalPlace JudgeRefusal.Area = 0
-refusalPlace (JudgeRefusal.Model refusal) = file.placeOf refusal
+refusalPlace (JudgeRefusal.Model refusal) = file.refusalPlace refusal
 
 abbrev pub findingOf : ModelFinding → Finding Judged
 findingOf (ModelFinding.Met lowest number) = found (met lowest number)

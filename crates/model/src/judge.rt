@@ -5,6 +5,7 @@ use model_file::ModelRefusal;
 use model_file::check;
 use model_tables::root_nodes;
 use nodeset::NodeSet;
+use pattern::entry::MAX_ENTRIES;
 use pattern::finding::PatternRead;
 use pattern::finding::PatternRefusal;
 use pattern_read::read;
@@ -47,7 +48,8 @@ impl JudgeRefusal {
     }
 }
 
-pub enum JudgeCheck {
+// How refusals 1 to 14 came out.
+enum JudgeCheck {
     Passed,
     Refused(JudgeRefusal),
 }
@@ -61,7 +63,7 @@ pub enum ModelFinding {
 }
 
 // The bytes that judging wants of its working area, and zeroes: a node set for each entry, 2,040.
-pub const AREA: usize = NodeSet::BYTES * 255;
+pub const AREA: usize = NodeSet::BYTES * MAX_ENTRIES;
 
 // Refusals 1 to 14, for a working area of this many bytes.
 fn check_all(p: &[u8], d: &[u8], size: usize) -> JudgeCheck

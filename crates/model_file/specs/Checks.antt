@@ -54,23 +54,23 @@ unfoldable pub modelCheck : List ℕ → Check
 modelCheck ds = headerCheck ds then eachBelow (nameCount ds) (nameCheck ds) then eachBelow (edgeCount ds) (edgeCheck ds)
 
 -- 01's number and place of each refusal of a model file
-abbrev pub numberOf : ModelRefusal → ℕ
-numberOf ModelRefusal.Mark = 10
-numberOf ModelRefusal.Version = 11
-numberOf ModelRefusal.Count = 12
-numberOf (ModelRefusal.Name j) = 13
-numberOf (ModelRefusal.Edge i) = 14
+abbrev pub refusalNumber : ModelRefusal → ℕ
+refusalNumber ModelRefusal.Mark = 10
+refusalNumber ModelRefusal.Version = 11
+refusalNumber ModelRefusal.Count = 12
+refusalNumber (ModelRefusal.Name j) = 13
+refusalNumber (ModelRefusal.Edge i) = 14
 
-abbrev pub placeOf : ModelRefusal → ℕ
-placeOf ModelRefusal.Mark = 0
-placeOf ModelRefusal.Version = 0
-placeOf ModelRefusal.Count = 0
-placeOf (ModelRefusal.Name j) = j
-placeOf (ModelRefusal.Edge i) = i
+abbrev pub refusalPlace : ModelRefusal → ℕ
+refusalPlace ModelRefusal.Mark = 0
+refusalPlace ModelRefusal.Version = 0
+refusalPlace ModelRefusal.Count = 0
+refusalPlace (ModelRefusal.Name j) = j
+refusalPlace (ModelRefusal.Edge i) = i
 
 -- ---- laws
 
 -- the outcome of a check of a model file
 abbrev pub checkOf : ModelCheck → Check
 checkOf ModelCheck.Passed = passes
-checkOf (ModelCheck.Refused refusal) = refuses (numberOf refusal) (placeOf refusal)
+checkOf (ModelCheck.Refused refusal) = refuses (refusalNumber refusal) (refusalPlace refusal)

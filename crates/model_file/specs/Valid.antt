@@ -21,7 +21,7 @@ use Rattle.model_file.specs.Contents.{recordLeads, leadsIn, recordOfName
 use Rattle.model_file.specs.Checks.{markCheck, versionCheck, countCheck, headerCheck, repeatsName, nameCheck, edgeCheck, modelCheck}
 
 -- a header that meets the checks 10 to 12
-pub record Header (ds : List ℕ) : Type 0 where
+pub record ValidHeader (ds : List ℕ) : Type 0 where
   pub marked : beginsWith mark ds ≡ true
   pub version-one : wordAt ds 3 ≡ 1
   pub some-node : 0 < nodeCount ds
@@ -44,13 +44,13 @@ pub record ValidEdge (ds : List ℕ) (i : ℕ) : Type 0 where
 
 -- a file that meets every check
 pub record ValidModel (ds : List ℕ) : Type 0 where
-  pub header : Header ds
+  pub header : ValidHeader ds
   pub names : (j : ℕ) → j < nameCount ds → ValidName ds j
   pub edges : (i : ℕ) → i < edgeCount ds → ValidEdge ds i
 
 -- ---- laws
 -- each check, and what it says
-pub header-passes : (ds : List ℕ) → headerCheck ds ≡ passes → Header ds
+pub header-passes : (ds : List ℕ) → headerCheck ds ≡ passes → ValidHeader ds
 unfolding headerCheck
 header-passes ds h =
     let a = then-passes (markCheck ds) (versionCheck ds then countCheck ds) h in
@@ -74,7 +74,7 @@ header-passes ds h =
       length-is = eqb-true _ _ (not-false _ (edges .1));
     }
 
-pub header-accepted : (ds : List ℕ) → Header ds → headerCheck ds ≡ passes
+pub header-accepted : (ds : List ℕ) → ValidHeader ds → headerCheck ds ≡ passes
 unfolding headerCheck
 header-accepted ds h =
     let long : 9 ≤ length ds = omega (arith, h .length-is) in

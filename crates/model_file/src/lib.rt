@@ -25,7 +25,7 @@ ghost use lib.Dec.{leb};
 ghost use Rattle.pattern.specs.File.Types.{maxName, maxAxis};
 ghost use Rattle.pattern.specs.Checks.Range.{eachBelow};
 ghost use Rattle.model_file.specs.Layout.{nameCount, edgeCount, nameRecord, edgeRecord, lengthOf};
-ghost use Rattle.model_file.specs.Checks.{countsWrong, headerCheck, repeatsName, nameCheck, edgeCheck, modelCheck, numberOf, placeOf, checkOf};
+ghost use Rattle.model_file.specs.Checks.{countsWrong, headerCheck, repeatsName, nameCheck, edgeCheck, modelCheck, refusalNumber, refusalPlace, checkOf};
 
 // Document 01's bounds of the three counts.
 const MAX_NODES: u8 = NodeSet::WIDTH;
@@ -46,7 +46,7 @@ pub enum ModelRefusal {
 impl ModelRefusal {
     // Document 01's number of the refusal.
     pub fn number(self) -> u8
-        ensures { λ r. ⌜ r ≡ numberOf self ⌝ }
+        ensures { λ r. ⌜ r ≡ refusalNumber self ⌝ }
     {
         match self {
             ModelRefusal::Mark => 10,
@@ -59,7 +59,7 @@ impl ModelRefusal {
 
     // Its place: the record's number, or 0.
     pub fn place(self) -> u16
-        ensures { λ r. ⌜ r ≡ placeOf self ⌝ }
+        ensures { λ r. ⌜ r ≡ refusalPlace self ⌝ }
     {
         match self {
             ModelRefusal::Mark => 0,

@@ -1,6 +1,6 @@
 // What reading a pattern finds.
 ghost use mathlib.Core.Path.{_≡_};
-ghost use Rattle.pattern.specs.File.Reading.{numberOf, placeOf};
+ghost use Rattle.pattern.specs.File.Reading.{refusalNumber, refusalPlace};
 
 // Document 01's refusals 1 to 8; those that have a place hold the entry's number.
 pub enum PatternRefusal {
@@ -17,7 +17,7 @@ pub enum PatternRefusal {
 impl PatternRefusal {
     // Document 01's number of the refusal.
     pub fn number(self) -> u8
-        ensures { λ r. ⌜ r ≡ numberOf self ⌝ }
+        ensures { λ r. ⌜ r ≡ refusalNumber self ⌝ }
     {
         match self {
             PatternRefusal::Mark => 1,
@@ -33,7 +33,7 @@ impl PatternRefusal {
 
     // Its place: the entry's number, or 0.
     pub fn place(self) -> u8
-        ensures { λ r. ⌜ r ≡ placeOf self ⌝ }
+        ensures { λ r. ⌜ r ≡ refusalPlace self ⌝ }
     {
         match self {
             PatternRefusal::Mark => 0,

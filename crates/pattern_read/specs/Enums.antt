@@ -5,7 +5,7 @@ use mathlib.Core.List.{List}
 use Prim.Native.Nat.{ℕ}
 use Rattle.pattern.specs.declared.table.Field.{Field}
 use Rattle.pattern.specs.Checks.Finding.{Check, passes, refuses}
-use Rattle.pattern.specs.File.Reading.{inRange, refersBack, numberOf, placeOf}
+use Rattle.pattern.specs.File.Reading.{inRange, refersBack, refusalNumber, refusalPlace}
 use Rattle.pattern_read.specs.declared.FieldTest.{FieldTest}
 use Rattle.pattern_read.specs.declared.PatternCheck.{PatternCheck}
 
@@ -17,4 +17,4 @@ fieldTest bs k FieldTest.Reference = refersBack bs k
 -- the outcome of a check
 abbrev pub checkOf : PatternCheck → Check
 checkOf PatternCheck.Passed = passes
-checkOf (PatternCheck.Refused refusal) = refuses (numberOf refusal) (placeOf refusal)
+checkOf (PatternCheck.Refused refusal) = refuses (refusalNumber refusal) (refusalPlace refusal)

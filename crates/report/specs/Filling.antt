@@ -17,12 +17,12 @@ abbrev pub putAt : List ℕ → ℕ → List ℕ → List ℕ
 putAt buf at text = take at buf ++ text ++ drop (at + length text) buf
 
 -- a text stands at the start of a buffer, and behind it what stood there; the number is its length
-pub record Filled (front before after : List ℕ) (end : ℕ) : Type 0 where
+pub record LineFilled (front before after : List ℕ) (end : ℕ) : Type 0 where
   pub stands : after ≡ written front before
   pub ends : end ≡ length front
 
 -- nothing is written yet
-pub filled-none : (buf : List ℕ) → Filled [] buf buf 0
+pub filled-none : (buf : List ℕ) → LineFilled [] buf buf 0
 filled-none buf = record { stands = refl; ends = refl }
 
 -- a further part behind what is written
@@ -60,8 +60,8 @@ put-copied buf text part at h e =
     ∙ ap (λ (x : List ℕ). take at buf ++ (text ++ x)) (drop-drop (length text) at buf)
     ∙ sym (append-assoc (take at buf) text (drop (at + length text) buf))
 
-pub filled-more : (front text before after after′ : List ℕ) (end end′ : ℕ) → Filled front before after end
-    → after′ ≡ putAt after end text → end′ ≡ end + length text → Filled (front ++ text) before after′ end′
+pub filled-more : (front text before after after′ : List ℕ) (end end′ : ℕ) → LineFilled front before after end
+    → after′ ≡ putAt after end text → end′ ≡ end + length text → LineFilled (front ++ text) before after′ end′
 filled-more front text before after after′ end end′ h e l =
     record {
       stands = rw (h .stands, h .ends) at e ∙ put-more front text before;
@@ -69,7 +69,7 @@ filled-more front text before after after′ end end′ h e l =
     }
 
 -- what a function that filled a line says of it; the length counts bytes of the buffer
-pub filled-told : (line before after : List ℕ) (end : ℕ) → Filled line before after end
+pub filled-told : (line before after : List ℕ) (end : ℕ) → LineFilled line before after end
     → (end ≡ length line) × ((after ≡ written line before) × Counts end after)
 filled-told line before after end h = (h .ends, (h .stands, counts))
   where

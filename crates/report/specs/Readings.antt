@@ -122,7 +122,7 @@ patternI = patternFile 1 (7 ∷ 0 ∷ 255 ∷ 255 ∷ [])
 
 abbrev pub I : Type 0
 I =
-    ((F : Finite) → Named F → judgedOf F (rootOf patternI) ≡ unmet)
+    ((model : Finite) → Named model → judgedOf model (rootOf patternI) ≡ unmet)
     × ((ds : List ℕ) (size : ℕ) → ValidModel ds → areaNeed patternI ≤ size → judgingOf patternI ds size ≡ found unmet)
     × ((ds : List ℕ) (size : ℕ)
     → (judgingOf patternI ds size ≡ found unmet) ⊎ ((number : ℕ) × ((place : ℕ) × (judgingOf patternI ds size ≡ refused number place))))

@@ -5,7 +5,7 @@ ghost use mathlib.Core.List.{_++_};
 ghost use Prim.Native.Nat.{_+_, _≤_};
 ghost use lib.ListN.{length};
 ghost use Rattle.report.specs.Line.{number, lineOf};
-ghost use Rattle.report.specs.Filling.{putAt, Filled};
+ghost use Rattle.report.specs.Filling.{putAt, LineFilled};
 
 // The bytes of the longest line: `closed`, four numbers of five digits with a space before each, and
 // the line feed.
@@ -33,7 +33,7 @@ fn put_number(n: u16, buf: &mut [u8], at: usize) -> usize
 // Puts a word and two numbers at the start of the buffer, and answers the place behind them.
 fn put_pair(word: &[u8], a: u16, b: u16, buf: &mut [u8]) -> usize
     requires { ⌜ length (now word) + 12 ≤ length (now buf) ⌝ }
-    ensures filled { λ r. ⌜ Filled (now (word .entry) ++ number a ++ number b) (now (buf .entry)) (now (buf .exit)) r ⌝ }
+    ensures filled { λ r. ⌜ LineFilled (now (word .entry) ++ number a ++ number b) (now (buf .entry)) (now (buf .exit)) r ⌝ }
     ensures room { λ r. ⌜ r ≤ length (now (word .entry)) + 12 ⌝ }
 {
     let first = put(word, buf, 0);
@@ -43,7 +43,7 @@ fn put_pair(word: &[u8], a: u16, b: u16, buf: &mut [u8]) -> usize
 
 // Puts the line of the report at the start of the buffer, and answers its length.
 pub fn fill(report: Report, buf: &mut [u8; LINE_BYTES]) -> usize
-    ensures { λ r. ⌜ Filled (lineOf report) (now (buf .entry)) (now (buf .exit)) r ⌝ }
+    ensures { λ r. ⌜ LineFilled (lineOf report) (now (buf .entry)) (now (buf .exit)) r ⌝ }
 {
     match report {
         Report::Closed(steps, clashes, forks, most) => {

@@ -124,14 +124,14 @@ unfit-only (Outcome.Fits c) h = absurd (false≢true h)
 unfit-only Outcome.Unfit h = refl
 
 module _ (bs : List ℕ) (P Q : Line) (a : ℕ) (ns : List ℕ) where
-  -- the rule's number is one of the list, or the rule concludes nothing from P
-  abbrev pub listed : ℕ → Rule → Bool
-  listed k r = oneOf k ns || isUnfit (r .outcome bs P Q a)
+  -- the rule's number is one of the list, or the rule doesn't fit P
+  abbrev listedOrUnfit : ℕ → Rule → Bool
+  listedOrUnfit k r = oneOf k ns || isUnfit (r .outcome bs P Q a)
 
-  -- where each rule from which P concludes something is listed, a rule of another number concludes nothing
-  pub unlisted : allOf listed rules ≡ true → (k : ℕ) → NoneOf k ns → ruleAt k .outcome bs P Q a ≡ Outcome.Unfit
+  -- where each rule that fits P is listed, a rule of another number doesn't fit
+  pub unlisted : allOf listedOrUnfit rules ≡ true → (k : ℕ) → NoneOf k ns → ruleAt k .outcome bs P Q a ≡ Outcome.Unfit
   unlisted all k none =
-      let h = rule-passes listed all (λ i. or-true (oneOf i ns)) k in
+      let h = rule-passes listedOrUnfit all (λ i. or-true (oneOf i ns)) k in
       unfit-only (ruleAt k .outcome bs P Q a) (rw (none-of k ns none) at h)
 
 -- the rule of a number that is known

@@ -1,6 +1,6 @@
 -- 01's rules 1 to 23, one equation each, in its order and words: from the lines P and Q and the argument to what they give. h is
 -- the has/lacks line P and e the entry of its node; l is the comparison or the is/is not line P, and in 9 to 15 e is the entry of its left
--- path; q is the line Q.
+-- path; Q is the line Q, and q that line where its form is known.
 -- Assumes nothing.
 use mathlib.Core.Bool.{Bool, true, false, not, _&&_}
 use mathlib.Core.List.{List, [], _∷_}
@@ -263,7 +263,7 @@ rule23 (Line.Compare l) =
 -- ---- the table of the rules
 
 -- All that 01 says of a rule: its number; how many sides what it concludes has; whether it uses the line Q, and the argument, beside P; and
--- what it concludes, for the pattern of these bytes, from P, Q and the argument.
+-- its outcome, for the pattern of these bytes, from P, Q and the argument.
 pub record Rule : Type 0 where
   pub number : ℕ
   pub sideCount : ℕ

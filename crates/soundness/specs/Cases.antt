@@ -66,13 +66,13 @@ at-ends l h =
     (eqb-true (l .left .path) endOfPath (r .0), eqb-true (l .right .path) endOfPath (r .1))
 
 -- sides alike, and comparisons alike but for sign and comparison
-abbrev pub Alike : Side → Side → Type 0
-Alike s t = (s .name .number ≡ t .name .number) × (s .path ≡ t .path)
+abbrev pub SidesAlike : Side → Side → Type 0
+SidesAlike s t = (s .name .number ≡ t .name .number) × (s .path ≡ t .path)
 
 abbrev pub AlikeSides : CompareLine → CompareLine → Type 0
-AlikeSides l q = (channelNumber (l .channel) ≡ channelNumber (q .channel)) × Alike (l .left) (q .left) × Alike (l .right) (q .right)
+AlikeSides l q = (channelNumber (l .channel) ≡ channelNumber (q .channel)) × SidesAlike (l .left) (q .left) × SidesAlike (l .right) (q .right)
 
-side-alike : (s t : Side) → sameSide s t ≡ true → Alike s t
+side-alike : (s t : Side) → sameSide s t ≡ true → SidesAlike s t
 side-alike s t h =
     let r = and-is-true (sameName (s .name) (t .name)) (eqb (s .path) (t .path)) h in
     (eqb-true (s .name .number) (t .name .number) (r .0), eqb-true (s .path) (t .path) (r .1))
@@ -89,9 +89,9 @@ sides-alike l q h =
 -- ---- the parts of a rule
 
 -- D of what is concluded; nothing is to be shown where lines or argument don't fit
-abbrev pub Concluded : (Conclusion → Type 0) → Outcome → Type 0
-Concluded D (Outcome.Fits c) = D c
-Concluded D Outcome.Unfit = Unit {0}
+abbrev pub WhereFits : (Conclusion → Type 0) → Outcome → Type 0
+WhereFits D (Outcome.Fits c) = D c
+WhereFits D Outcome.Unfit = Unit {0}
 
 module _ (C : Outcome → Type 0) (unfit : C Outcome.Unfit) where
   -- a test

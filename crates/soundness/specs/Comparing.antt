@@ -34,19 +34,19 @@ module _ (M : Model) (e : ℕ) where
 -- ---- of sides
 module _ (bs : List ℕ) (M : Model) (nom : Naming M) where
   -- the path of the side leads from its name to y
-  abbrev pub Ends : Side → M .Node → Type 0
-  Ends s y = LeadsAt M nom bs (s .path) (nom (s .name .number)) y
+  abbrev pub SideEnds : Side → M .Node → Type 0
+  SideEnds s y = LeadsAt M nom bs (s .path) (nom (s .name .number)) y
 
   -- some ends of the two compare so; `Compares l` is this of the parts of l
   abbrev pub Meet : Comparison → ℕ → Side → Side → Type 0
-  Meet c e s t = (y : M .Node) × ((z : M .Node) × (Ends s y × Ends t z × Compared M c e y z))
+  Meet c e s t = (y : M .Node) × ((z : M .Node) × (SideEnds s y × SideEnds t z × Compared M c e y z))
 
   -- the sides exchanged
   pub meet-swap : (c : Comparison) (e : ℕ) (s t : Side) → Meet c e s t → Meet c e t s
   meet-swap c e s t h = (h .1 .0, (h .0, (h .1 .1 .1, h .1 .1 .0, compared-sym M e c (h .0) (h .1 .0) (h .1 .1 .2))))
 
   -- another left side, which leads wherever the first does
-  pub meet-left : (c : Comparison) (e : ℕ) (s s′ t : Side) → ((y : M .Node) → Ends s y → Ends s′ y) → Meet c e s t → Meet c e s′ t
+  pub meet-left : (c : Comparison) (e : ℕ) (s s′ t : Side) → ((y : M .Node) → SideEnds s y → SideEnds s′ y) → Meet c e s t → Meet c e s′ t
   meet-left c e s s′ t lead h = (h .0, (h .1 .0, (lead (h .0) (h .1 .1 .0), h .1 .1 .1, h .1 .1 .2)))
 
   -- alike sides
@@ -60,7 +60,7 @@ module _ (bs : List ℕ) (M : Model) (nom : Naming M) where
 -- both at their ends: the nodes of the two names compare so
 module _ {bs : List ℕ} {n : ℕ} (ok : Valid bs n) (M : Model) (nom : Naming M) where
   -- "end leads to u"
-  at-end : (s : Side) → s .path ≡ endOfPath → (y : M .Node) → Ends bs M nom s y ↔ (nom (s .name .number) ≡ y)
+  at-end : (s : Side) → s .path ≡ endOfPath → (y : M .Node) → SideEnds bs M nom s y ↔ (nom (s .name .number) ≡ y)
   at-end s e y =
       let u = nom (s .name .number) in
       subst (λ (v : ℕ). LeadsAt M nom bs v u y ↔ (u ≡ y)) (sym e) (published M nom ok .ends u y)

@@ -25,7 +25,7 @@ use Rattle.lines.specs.Formed.{IsNode, Formed, AllFormed, formed-at}
 use Rattle.lines.specs.Parts.{withLeft}
 use Rattle.rules.specs.Rules.{Rule, ruleAt, comparing, onIs, onCompare, onNode, onLeft, rule1, rule2, rule3, rule4, rule5, rule6, rule7, rule8, rule9, rule10, rule11, rule12, rule13, rule14, rule15, rule16, rule17, rule18, rule19, replaced, replacedFirst, replacedSecond, rule20, chained, rule21, rule22, clashIf, contrary, rule23}
 use Rattle.soundness.specs.Entries.{References, references-of, on-path}
-use Rattle.soundness.specs.Cases.{Concluded, otherwise-fits, kind-fits, held-fits, barred-fits, new-fits, named-fits, has-fits, is-fits, compare-fits, left-fits, arrival-fits, fits16, fits17, fits18, fits19, fits20, fits21has, fits21is, fits21compare, fits22, fits23is, fits23compare}
+use Rattle.soundness.specs.Cases.{WhereFits, otherwise-fits, kind-fits, held-fits, barred-fits, new-fits, named-fits, has-fits, is-fits, compare-fits, left-fits, arrival-fits, fits16, fits17, fits18, fits19, fits20, fits21has, fits21is, fits21compare, fits22, fits23is, fits23compare}
 use Rattle.rules.specs.Sides.{sides}
 use Rattle.steps.specs.Steps.{Follows, follows-fits, follows-on}
 use Rattle.rules.specs.Table.{each-rule, _and_}
@@ -52,7 +52,7 @@ fork f g = ((f, tt), ((g, tt), tt))
 module _ {bs : List ℕ} {n : ℕ} (ok : Valid bs n) where
   -- what is concluded is formed; what is concluded from P is formed where P is
   abbrev Shown : Outcome → Type 0
-  Shown = Concluded (FormedConclusion bs n)
+  Shown = WhereFits (FormedConclusion bs n)
 
   abbrev From : Line → Outcome → Type 0
   From P o = Formed bs n P → Shown o

@@ -19,7 +19,7 @@ use Rattle.rules.specs.declared.conclusion.Outcome.{Outcome}
 use Rattle.rules.specs.declared.fit.Direction.{Direction}
 use Rattle.lines.specs.Lines.{name, lineOn}
 use Rattle.rules.specs.Rules.{Rule, ruleAt, only, when, comparing, newName, farEnd, arrival, arriving, replacedFirst, replacedSecond, replaced, onIs, onCompare, onNode, onLeft, rule1, rule2, rule3, rule4, rule5, rule6, rule7, rule8, rule9, rule10, rule11, rule12, rule13, rule14, rule15, rule16, rule17, rule18, rule19, rule20, chained, rule21, rule22, clashIf, contrary, rule23}
-use Rattle.soundness.specs.Cases.{Concluded, only-fits, otherwise-fits, new-fits, arrival-fits, has-fits, is-fits, compare-fits, left-fits}
+use Rattle.soundness.specs.Cases.{WhereFits, only-fits, otherwise-fits, new-fits, arrival-fits, has-fits, is-fits, compare-fits, left-fits}
 use Rattle.rules.specs.Sides.{sides}
 use Rattle.rules.specs.Table.{each-rule, _and_}
 use Rattle.steps.specs.declared.step.Step.{Step}
@@ -27,7 +27,7 @@ use Rattle.steps.specs.Steps.{Follows, follows-fits}
 
 -- what is concluded has so many sides
 pub record Shaped (n : ℕ) (o : Outcome) : Type 0 where
-  pub says : Concluded (λ c. length (sides c) ≡ n) o
+  pub says : WhereFits (λ c. length (sides c) ≡ n) o
 
 one : {l : Line} → Shaped 1 (Outcome.Fits (Conclusion.One l))
 one = record { says = refl }
@@ -148,5 +148,5 @@ rule-shaped =
 -- so has what a step that follows its rule concludes
 pub follows-sides : (bs : List ℕ) (b : List Line) (s : Step) (c : Conclusion) → Follows bs b s c → length (sides c) ≡ ruleAt (s .rule) .sideCount
 follows-sides bs b s c f =
-    subst (Concluded (λ d. length (sides d) ≡ ruleAt (s .rule) .sideCount)) (follows-fits bs b s c f)
+    subst (WhereFits (λ d. length (sides d) ≡ ruleAt (s .rule) .sideCount)) (follows-fits bs b s c f)
     (rule-shaped (s .rule) bs (lineOn b (s .p)) (lineOn b (s .q)) (s .argument) .says)

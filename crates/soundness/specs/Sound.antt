@@ -37,12 +37,12 @@ use Rattle.lines.specs.Lines.{has, leads, side, axis, name, lineOn, lineHas, br
 use Rattle.lines.specs.Formed.{IsNode, Formed, AllFormed, formed-at}
 use Rattle.lines.specs.Parts.{withLeft, channelAt}
 use Rattle.rules.specs.Rules.{Rule, ruleAt, comparing, onIs, onCompare, onNode, onLeft, rule1, rule2, rule3, rule4, rule5, rule6, rule7, rule8, rule9, rule10, rule11, rule12, rule13, rule14, rule15, rule16, rule17, rule18, rule19, replaced, replacedFirst, replacedSecond, rule20, chained, rule21, rule22, clashIf, contrary, rule23, _∈_}
-use Rattle.soundness.specs.Cases.{Concluded, AtEnds, otherwise-fits, kind-fits, held-fits, barred-fits, new-fits, named-fits, has-fits, is-fits, compare-fits, left-fits, arrival-fits, fits16, fits17, fits18, fits19, fits20, fits21has, fits21is, fits21compare, fits22, fits23is, fits23compare}
+use Rattle.soundness.specs.Cases.{WhereFits, AtEnds, otherwise-fits, kind-fits, held-fits, barred-fits, new-fits, named-fits, has-fits, is-fits, compare-fits, left-fits, arrival-fits, fits16, fits17, fits18, fits19, fits20, fits21has, fits21is, fits21compare, fits22, fits23is, fits23compare}
 use Rattle.steps.specs.Steps.{Follows, follows-fits, follows-on}
 use Rattle.soundness.specs.Entries.{references-of, first-within, on-path, NodeSays, PathSays, node-says, path-says}
 use Rattle.lines.specs.Truth.{Signed, Compares, True, AllTrue, true-at, held, barred, to-held, to-barred, signed-map, denied, opposites}
 use Rattle.lines.specs.Naming.{renamed, renamed-same, renamed-other, moved-holds, moved-leads, still-true}
-use Rattle.soundness.specs.Comparing.{Ends, Meet, meet-swap, meet-left, meet-alike, to-meet, of-meet, compared-other, compared-on}
+use Rattle.soundness.specs.Comparing.{SideEnds, Meet, meet-swap, meet-left, meet-alike, to-meet, of-meet, compared-other, compared-on}
 use Rattle.rules.specs.Sides.{sides, newNames}
 use Rattle.rules.specs.Table.{each-rule, _and_, oneOf}
 
@@ -99,7 +99,7 @@ channel-number (suc (suc (suc x))) l = omega (arith, l)
 module _ {bs : List ℕ} {n : ℕ} (ok : Valid bs n) (M : Model) (nom : Naming M) where
   -- what is concluded is sound
   abbrev Shown : Outcome → Type 0
-  Shown = Concluded (Sound bs M nom)
+  Shown = WhereFits (Sound bs M nom)
 
   -- the new names of a conclusion aren't used in the pattern and aren't on P
   abbrev NewTo : Line → List ℕ → Type 0
@@ -108,7 +108,7 @@ module _ {bs : List ℕ} {n : ℕ} (ok : Valid bs n) (M : Model) (nom : Naming M
 
   -- sound where that is so
   abbrev ShownFor : Line → Outcome → Type 0
-  ShownFor P o = Concluded (λ c. NewTo P (newNames c)) o → Shown o
+  ShownFor P o = WhereFits (λ c. NewTo P (newNames c)) o → Shown o
 
   -- what Q says makes what is concluded sound
   abbrev ShownBy : Line → Outcome → Type 0
@@ -206,25 +206,25 @@ module _ {bs : List ℕ} {n : ℕ} (ok : Valid bs n) (M : Model) (nom : Naming M
 
     -- the left path by its kind
     leads-by : (κ : Kind) → path .kind ≡ κ → (y : M .Node)
-        → Ends bs M nom (l .left) y ↔ PathSays bs M nom (l .left .path) κ (nom left-name) y
+        → SideEnds bs M nom (l .left) y ↔ PathSays bs M nom (l .left .path) κ (nom left-name) y
     leads-by κ of-kind y = path-says ok M nom (l .left .path) path-entry κ of-kind (nom left-name) y
 
     -- the comparison with another left side
     abbrev With : Side → Type 0
     With s = Meet bs M nom (l .comparison) (channelNumber (l .channel)) s (l .right)
 
-    to-side : (s : Side) → ((y : M .Node) → Ends bs M nom (l .left) y → Ends bs M nom s y) → Compares bs M nom l → With s
+    to-side : (s : Side) → ((y : M .Node) → SideEnds bs M nom (l .left) y → SideEnds bs M nom s y) → Compares bs M nom l → With s
     to-side s = meet-left bs M nom (l .comparison) (channelNumber (l .channel)) (l .left) s (l .right)
 
-    of-side : (s : Side) → ((y : M .Node) → Ends bs M nom s y → Ends bs M nom (l .left) y) → With s → Compares bs M nom l
+    of-side : (s : Side) → ((y : M .Node) → SideEnds bs M nom s y → SideEnds bs M nom (l .left) y) → With s → Compares bs M nom l
     of-side s = meet-left bs M nom (l .comparison) (channelNumber (l .channel)) s (l .left) (l .right)
 
     -- what is held is held with a side that leads to the same end
-    hold : (e : l .sign ≡ Sign.Positive) (s : Side) → Ends bs M nom s (held e t .0) → Signed (l .sign) (With s)
+    hold : (e : l .sign ≡ Sign.Positive) (s : Side) → SideEnds bs M nom s (held e t .0) → Signed (l .sign) (With s)
     hold e s ends = let c = held e t in to-held e (c .0, (c .1 .0, (ends, c .1 .1 .1, c .1 .1 .2)))
 
     -- what is barred is barred with a side that leads nowhere else
-    bar : l .sign ≡ Sign.Negative → (s : Side) → ((y : M .Node) → Ends bs M nom s y → Ends bs M nom (l .left) y)
+    bar : l .sign ≡ Sign.Negative → (s : Side) → ((y : M .Node) → SideEnds bs M nom s y → SideEnds bs M nom (l .left) y)
         → Signed (l .sign) (With s)
     bar e s lead = to-barred e (λ c. barred e t (of-side s lead c))
 
@@ -343,7 +343,7 @@ module _ {bs : List ℕ} {n : ℕ} (ok : Valid bs n) (M : Model) (nom : Naming M
         (subst
         (λ (u : M .Node). Signed (q .sign)
         ((y : M .Node) × ((z : M .Node)
-        × (LeadsAt M nom bs (q .left .path) u y × Ends bs M nom (q .right) z × Compared M (q .comparison) (channelNumber (q .channel)) y z))))
+        × (LeadsAt M nom bs (q .left .path) u y × SideEnds bs M nom (q .right) z × Compared M (q .comparison) (channelNumber (q .channel)) y z))))
         (to-j (q .left .name) same)
         t)))
 
@@ -361,7 +361,7 @@ module _ {bs : List ℕ} {n : ℕ} (ok : Valid bs n) (M : Model) (nom : Naming M
         (subst
         (λ (u : M .Node). Signed (q .sign)
         ((y : M .Node) × ((z : M .Node)
-        × (Ends bs M nom (q .left) y × LeadsAt M nom bs (q .right .path) u z × Compared M (q .comparison) (channelNumber (q .channel)) y z))))
+        × (SideEnds bs M nom (q .left) y × LeadsAt M nom bs (q .right .path) u z × Compared M (q .comparison) (channelNumber (q .channel)) y z))))
         (to-j (q .right .name) same)
         t)))
 

@@ -69,8 +69,8 @@ abbrev pub isStale : List ℕ → List Line → Conclusion → Bool
 isStale bs b c = anyStale bs b (newNames c)
 
 -- "19, rule unknown; 20, a used line not on the branch or an unused field not zero": of step k
-abbrev pub fieldCheck : List Line → Step → ℕ → Check
-fieldCheck b s k = refusesIf (isUnknown (ruleAt (s .rule))) 19 k then refusesIf (fieldFault b s) 20 k
+abbrev pub ruleFieldCheck : List Line → Step → ℕ → Check
+ruleFieldCheck b s k = refusesIf (isUnknown (ruleAt (s .rule))) 19 k then refusesIf (fieldFault b s) 20 k
 
 -- "21, lines or argument don't fit (name over 127 included); 22, name not fresh"
 abbrev pub unlessStale : List ℕ → List Line → ℕ → Outcome → Finding Conclusion
@@ -79,7 +79,7 @@ unlessStale bs b k Outcome.Unfit = refused 21 k
 
 -- a step's answer: what it concludes, or its refusal
 unfoldable pub stepping : List ℕ → List Line → Step → ℕ → Finding Conclusion
-stepping bs b s k = onward (fieldCheck b s k) (unlessStale bs b k (stepOutcome bs b s))
+stepping bs b s k = onward (ruleFieldCheck b s k) (unlessStale bs b k (stepOutcome bs b s))
 
 -- The step follows a listed rule on the branch, and concludes c: the rule has the step's number; the lines that it uses are on the branch;
 -- "fields a rule doesn't use are zero"; the lines and the argument give c; and each name that c wants fresh is "not used in the pattern and on
@@ -197,7 +197,7 @@ module _ (bs : List ℕ) (b : List Line) (s : Step) where
     pub found-follows : (k : ℕ) → stepping bs b s k ≡ found c → Follows bs b s c
     unfolding stepping
     found-follows k h =
-        let r = onward-found (fieldCheck b s k) (unlessStale bs b k (stepOutcome bs b s)) c h in
+        let r = onward-found (ruleFieldCheck b s k) (unlessStale bs b k (stepOutcome bs b s)) c h in
         let p = then-passes (refusesIf (isUnknown (ruleAt (s .rule))) 19 k) (refusesIf (fieldFault b s) 20 k) (r .0) in
         let known = at-listed (s .rule) (refusesIf-passes _ 19 k (p .0)) in
         let uses = ruleAt (s .rule) in

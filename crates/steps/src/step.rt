@@ -30,8 +30,8 @@ impl Step {
 }
 
 // Document 01's refusals of a step that go by its rule, each with the step's number: 19, rule unknown;
-// 20, a line not on the branch or an unused field; 21, lines or argument that don't fit; 22, a name
-// that isn't fresh.
+// 20, a used line not on the branch or an unused field not zero; 21, lines or argument that don't fit;
+// 22, a name that isn't fresh.
 pub enum StepRefusal {
     Rule(u16),
     Field(u16),

@@ -21,7 +21,7 @@ ghost use Rattle.pattern.specs.File.Reading.{readingOf};
 ghost use Rattle.lines.specs.declared.line.Line.{Line};
 ghost use Rattle.lines.specs.Stored.{linesFrom};
 ghost use Rattle.steps.specs.Steps.{lineFault, argumentFault, fieldFault, stepOutcome, isStale, stepping, answerOf};
-ghost use Rattle.steps.specs.Standing.{Standing, Readable};
+ghost use Rattle.steps.specs.AtStep.{AtStep, Readable};
 
 // Whether a branch of so many lines has a line of the number.
 fn on_branch(len: usize, k: u16) -> bool
@@ -94,7 +94,7 @@ fn is_stale(p: &[u8], n: u8, area: &[u8], len: usize, conclusion: Conclusion) ->
 
 // Step k, which is s, on a branch of so many lines, for a pattern of n entries.
 pub fn take(p: &[u8], n: u8, area: &[u8], len: usize, s: Step, k: u16) -> StepAnswer
-    requires { ⌜ Standing (now p) n (now area) len ⌝ }
+    requires { ⌜ AtStep (now p) n (now area) len ⌝ }
     ensures { λ r. ⌜ answerOf r ≡ stepping (now (p .entry)) (linesFrom (now (area .entry)) 0 len) s k ⌝ }
 {
     if !is_known(s.rule) {

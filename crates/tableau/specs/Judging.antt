@@ -132,13 +132,13 @@ walkPlace (WalkRefusal.AllClosed k) = k
 walkPlace (WalkRefusal.StillOpen k) = k
 
 abbrev pub refusalNumber : TableauRefusal → ℕ
-refusalNumber (TableauRefusal.Pattern refusal) = reading.numberOf refusal
+refusalNumber (TableauRefusal.Pattern refusal) = reading.refusalNumber refusal
 refusalNumber TableauRefusal.Area = 9
 refusalNumber (TableauRefusal.Header refusal) = headerNumber refusal
 refusalNumber (TableauRefusal.Walk refusal) = walkNumber refusal
 
 abbrev pub refusalPlace : TableauRefusal → ℕ
-refusalPlace (TableauRefusal.Pattern refusal) = reading.placeOf refusal
+refusalPlace (TableauRefusal.Pattern refusal) = reading.refusalPlace refusal
 refusalPlace TableauRefusal.Area = 0
 refusalPlace (TableauRefusal.Header refusal) = 0
 refusalPlace (TableauRefusal.Walk refusal) = walkPlace refusal

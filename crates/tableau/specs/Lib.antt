@@ -3,7 +3,7 @@ pub mod Run
 pub mod Judging
 pub mod Closing
 pub mod Closure
+pub mod RunCloses
 pub mod JudgingCloses
 pub mod Counting
 pub mod Soundness
-pub mod RunCloses

@@ -17,7 +17,7 @@ use Rattle.pattern.specs.declared.finding.PatternRefusal.{PatternRefusal}
 use Rattle.pattern.specs.Checks.Finding.{found, refused, found-passes, refused-refuses}
 use Rattle.pattern.specs.File.Types.{maxName}
 use Rattle.pattern.specs.File.Made.{make, made, outOfRange, nameMade, out-beyond}
-use Rattle.pattern.specs.File.Reading.{readingOf, numberOf}
+use Rattle.pattern.specs.File.Reading.{readingOf, refusalNumber}
 use Rattle.pattern.specs.File.Valid.{read-passes, read-refuses}
 use Rattle.lines.specs.Lines.{name}
 use Rattle.tableau.specs.declared.finding.HeaderRefusal.{HeaderRefusal}
@@ -79,7 +79,7 @@ pub steps-part : (ts : List ℕ) → take (length ts - 8) (drop 8 ts) ≡ stepBy
 steps-part ts = take-all (length ts - 8) (drop 8 ts) (le-of-eq (length-drop 8 ts))
 
 -- "Refusals 1 to 9 and 15 to 18 leave the area unchanged"
-pub pattern-early : (refusal : PatternRefusal) → clears (numberOf refusal) ≡ false
+pub pattern-early : (refusal : PatternRefusal) → clears (refusalNumber refusal) ≡ false
 pattern-early PatternRefusal.Mark = refl
 pattern-early PatternRefusal.Version = refl
 pattern-early PatternRefusal.Count = refl

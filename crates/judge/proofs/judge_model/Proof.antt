@@ -5,9 +5,6 @@ use Rattle.judge.specs.Together.{model-promised}
 use borrow.Author.Needs.{needs}
 use Rattle.judge.proofs.judge_model.Statement.{statement}
 use Rattle.judge.proofs.judge_model.Tie as tie
-use Rattle.judge.proofs.judge_model.Reads as reads
-use Rattle.judge.proofs.judge_model.Lts as lts
-use Rattle.model.proofs.judge.judge.Reads as judge-reads
 
 judge-requires : tie.Need-judge-requires
 judge-requires c κs = search needs

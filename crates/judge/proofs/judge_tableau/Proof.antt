@@ -5,9 +5,6 @@ use Rattle.judge.specs.Together.{tableau-promised}
 use borrow.Author.Needs.{needs}
 use Rattle.judge.proofs.judge_tableau.Statement.{statement}
 use Rattle.judge.proofs.judge_tableau.Tie as tie
-use Rattle.judge.proofs.judge_tableau.Reads as reads
-use Rattle.judge.proofs.judge_tableau.Lts as lts
-use Rattle.tableau_judge.proofs.judge.judge.Reads as judge-reads
 
 judge-requires : tie.Need-judge-requires
 judge-requires c κs = search needs

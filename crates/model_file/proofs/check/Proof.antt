@@ -7,7 +7,7 @@ use Rattle.pattern.specs.Checks.Finding.{passes}
 use Rattle.pattern.specs.Checks.Range.{eachBelow}
 use Rattle.model_file.specs.Layout.{nameCount}
 use Rattle.model_file.specs.Checks.{headerCheck, nameCheck, modelCheck, checkOf}
-use Rattle.model_file.specs.Valid.{Header, header-passes}
+use Rattle.model_file.specs.Valid.{ValidHeader, header-passes}
 use Rattle.model_file.proofs.check.Statement.{statement}
 use Rattle.model_file.proofs.check.Tie as tie
 
@@ -27,7 +27,7 @@ enum-told c = search needs
 header-passed : (c : tie.After-enum-told) → headerCheck (c .before .before .before .before .args .d .now) ≡ passes
 header-passed c = sym (c .before .before .check-header .ensures) ∙ ap checkOf (c .enum-told .given .1)
 
-header-of : (c : tie.After-enum-told) → Header (c .before .before .before .before .args .d .now)
+header-of : (c : tie.After-enum-told) → ValidHeader (c .before .before .before .before .args .d .now)
 header-of c = header-passes (c .before .before .before .before .args .d .now) (header-passed c)
 
 check-names-requires : tie.Need-check-names-requires

@@ -12,7 +12,7 @@ use Rattle.pattern.specs.declared.types.AxisMade.{AxisMade}
 use Rattle.pattern.specs.declared.types.ChannelMade.{ChannelMade}
 use Rattle.pattern.specs.File.Types.{channelNumber}
 
--- what a making function answers: the number that it was handed, or that this is out of range.
+-- what a making function answers: the number that it was handed, or that this is out of range
 pub data Made : Type 0 where
   made : ℕ → Made
   outOfRange : Made

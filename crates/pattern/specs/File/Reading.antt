@@ -114,13 +114,13 @@ refusalOf (PatternRefusal.Reference k) = (6, k)
 refusalOf (PatternRefusal.Repeat k) = (7, k)
 refusalOf (PatternRefusal.RootPath k) = (8, k)
 
-abbrev pub numberOf : PatternRefusal → ℕ
-numberOf refusal = refusalOf refusal .0
+abbrev pub refusalNumber : PatternRefusal → ℕ
+refusalNumber refusal = refusalOf refusal .0
 
-abbrev pub placeOf : PatternRefusal → ℕ
-placeOf refusal = refusalOf refusal .1
+abbrev pub refusalPlace : PatternRefusal → ℕ
+refusalPlace refusal = refusalOf refusal .1
 
 -- the finding of reading
 abbrev pub findingOf : PatternRead → Finding ℕ
 findingOf (PatternRead.Read n) = found n
-findingOf (PatternRead.Refused refusal) = refused (numberOf refusal) (placeOf refusal)
+findingOf (PatternRead.Refused refusal) = refused (refusalNumber refusal) (refusalPlace refusal)

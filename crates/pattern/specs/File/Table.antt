@@ -94,7 +94,7 @@ isPath Sort.Path = true
 isPath Sort.Neither = false
 
 -- ---- laws
-pub kind-of-number : (κ : Kind) → kindOf (kindNumber κ) ≡ κ
+kind-of-number : (κ : Kind) → kindOf (kindNumber κ) ≡ κ
 kind-of-number Kind.Property = refl
 kind-of-number Kind.Name = refl
 kind-of-number Kind.Not = refl

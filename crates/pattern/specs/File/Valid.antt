@@ -1,4 +1,4 @@
--- A valid pattern file, as facts: it is what reading accepts, and what later work knows of a pattern that was read.
+-- A valid pattern file: header and root as facts, ranges and references by reading's own tests, which `within-at` and `refers-at` say as facts.
 -- Assumes nothing.
 use mathlib.Core.Path.{_≡_, refl, sym, _∙_, ap, subst}
 use mathlib.Core.Bool.{Bool, true, false, not, _||_, or-true}
@@ -23,7 +23,7 @@ use Rattle.pattern.specs.File.Reading.{mark, countOf, inRange, sortAt, e
 use Rattle.pattern.specs.File.Fields.{eachField, OfFields, OfReference, OfReferences, each-field}
 
 -- a header that meets the checks 1 to 3
-pub record Header (bs : List ℕ) : Type 0 where
+pub record ValidHeader (bs : List ℕ) : Type 0 where
   pub marked : beginsWith mark bs ≡ true
   pub version-one : wordAt bs 3 ≡ 1
   pub some-entry : 0 < countOf bs
@@ -39,7 +39,7 @@ pub record ValidEntry (bs : List ℕ) (k : ℕ) : Type 0 where
 
 -- a file of n entries that meets every check
 pub record Valid (bs : List ℕ) (n : ℕ) : Type 0 where
-  pub header : Header bs
+  pub header : ValidHeader bs
   pub count-is : countOf bs ≡ n
   pub entries : (k : ℕ) → k < n → ValidEntry bs k
   pub root-node : sortAt bs (n - 1) ≡ Sort.Node
@@ -47,7 +47,7 @@ pub record Valid (bs : List ℕ) (n : ℕ) : Type 0 where
 -- ---- laws
 
 -- ---- each test of reading, and what it says
-pub header-passes : (bs : List ℕ) → headerCheck bs ≡ passes → Header bs
+pub header-passes : (bs : List ℕ) → headerCheck bs ≡ passes → ValidHeader bs
 unfolding headerCheck
 header-passes bs h =
     let a = then-passes (markCheck bs) (versionCheck bs then countCheck bs) h in
@@ -65,7 +65,7 @@ header-passes bs h =
       length-is = eqb-true _ _ (not-false _ (sizes .1));
     }
 
-pub header-accepted : (bs : List ℕ) → Header bs → headerCheck bs ≡ passes
+pub header-accepted : (bs : List ℕ) → ValidHeader bs → headerCheck bs ≡ passes
 unfolding headerCheck
 header-accepted bs h =
     let long : 6 ≤ length bs = omega (arith, h .length-is) in
@@ -133,7 +133,7 @@ valid bs n h =
     let b = then-passes (eachBelow (countOf bs) (entryCheck bs)) (rootCheck bs) (a .1) in
     subst (λ (m : ℕ). Valid bs m) (r .1) (from-checks (header-passes bs (a .0)) (b .0) (b .1))
   where
-    from-checks : Header bs → eachBelow (countOf bs) (entryCheck bs) ≡ passes → rootCheck bs ≡ passes → Valid bs (countOf bs)
+    from-checks : ValidHeader bs → eachBelow (countOf bs) (entryCheck bs) ≡ passes → rootCheck bs ≡ passes → Valid bs (countOf bs)
     from-checks header each root =
         let entries : (k : ℕ) → k < countOf bs → ValidEntry bs k = λ k l. entry-passes bs k (each-at (entryCheck bs) (countOf bs) k each l) in
         record {

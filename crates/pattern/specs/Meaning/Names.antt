@@ -110,10 +110,10 @@ module _ {bs : List ℕ} {n : ℕ} (ok : Valid bs n) (Q : ℕ → Type 0) (used 
           )
 
   -- what holds of every name that the pattern uses holds of every name in the expression of a node entry, and of a path reference
-  pub node-names-at : (k : ℕ) → k < n → OfNames Q (nodeAt bs k)
+  node-names-at : (k : ℕ) → k < n → OfNames Q (nodeAt bs k)
   node-names-at k l = entry-names k l .0
 
-  pub path-names-at : (v : ℕ) → Reference n v → OfNamesP Q (pathAt bs v)
+  path-names-at : (v : ℕ) → Reference n v → OfNamesP Q (pathAt bs v)
   path-names-at v (inl e) = end-names v e
   path-names-at v (inr l) = entry-names v l .1
 

@@ -9,9 +9,6 @@ use Rattle.pattern.specs.Checks.Range.{someBelow}
 use Rattle.pattern.specs.File.Entries.{sameBytes}
 use Rattle.pattern_read.proofs.repeats.Statement.{statement}
 use Rattle.pattern_read.proofs.repeats.Tie as tie
-use Rattle.pattern_read.proofs.repeats.Reads as reads
-use Rattle.pattern_read.proofs.repeats.Lts as lts
-use Rattle.pattern_read.proofs.same_entry.Reads as same-entry-reads
 
 abbrev Inv-loop : tie.InvT-loop
 Inv-loop p k repeated₀ j₀ repeated j = (j ≤ k) × (repeated ≡ someBelow j (λ i. sameBytes p i k))

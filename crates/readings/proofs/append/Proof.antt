@@ -10,8 +10,6 @@ use Rattle.io.specs.Counts.{Counts}
 use borrow.Author.Needs.{needs}
 use Rattle.readings.proofs.append.Statement.{statement}
 use Rattle.readings.proofs.append.Tie as tie
-use Rattle.readings.proofs.append.Reads as reads
-use Rattle.readings.proofs.append.Lts as lts
 
 counts : (n : ℕ) (xs : List ℕ) → n ≤ length xs → Counts n xs
 counts n xs l = (l, sym (length-take n xs ∙ min-eq-left l))

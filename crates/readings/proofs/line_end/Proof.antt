@@ -5,8 +5,6 @@ use Prim.Native.Nat.{_-_, _≤_}
 use lib.ListN.{length}
 use Rattle.readings.proofs.line_end.Statement.{statement}
 use Rattle.readings.proofs.line_end.Tie as tie
-use Rattle.readings.proofs.line_end.Reads as reads
-use Rattle.readings.proofs.line_end.Lts as lts
 
 abbrev Inv-loop : tie.InvT-loop
 Inv-loop list from i₀ i = (from ≤ i) × (i ≤ length list)

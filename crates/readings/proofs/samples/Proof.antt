@@ -5,10 +5,6 @@ use Prim.Native.Nat.{_-_}
 use lib.ListN.{length}
 use Rattle.readings.proofs.samples.Statement.{statement}
 use Rattle.readings.proofs.samples.Tie as tie
-use Rattle.readings.proofs.samples.Reads as reads
-use Rattle.readings.proofs.samples.Lts as lts
-use Rattle.readings.proofs.line_end.Reads as line-end-reads
-use Rattle.readings.proofs.sample.Reads as sample-reads
 
 abbrev Inv-loop : tie.InvT-loop
 Inv-loop list at₀ at = Unit {0}

@@ -5,10 +5,6 @@ use Rattle.report.specs.Line.{lineFor}
 use Rattle.report.specs.Filling.{filled-told}
 use Rattle.report.proofs.line_for.Statement.{statement}
 use Rattle.report.proofs.line_for.Tie as tie
-use Rattle.report.proofs.line_for.Reads as reads
-use Rattle.report.proofs.line_for.Lts as lts
-use Rattle.report.proofs.line.fill.Reads as fill-reads
-use Rattle.report.proofs.report_for.Reads as report-for-reads
 
 report-for-requires : tie.Need-report-for-requires
 report-for-requires c κs = search needs

@@ -4,10 +4,6 @@ use mathlib.Core.Path.{refl}
 use borrow.Author.Needs.{needs}
 use Rattle.report.proofs.model_report.Statement.{statement}
 use Rattle.report.proofs.model_report.Tie as tie
-use Rattle.report.proofs.model_report.Reads as reads
-use Rattle.report.proofs.model_report.Lts as lts
-use Rattle.model.proofs.judge.JudgeRefusal.number.Reads as number-reads
-use Rattle.model.proofs.judge.JudgeRefusal.place.Reads as place-reads
 
 enum-known-finding : tie.Need-enum-known-finding
 enum-known-finding c = search needs

@@ -4,13 +4,6 @@ use mathlib.Core.Path.{refl}
 use borrow.Author.Needs.{needs}
 use Rattle.report.proofs.report_for.Statement.{statement}
 use Rattle.report.proofs.report_for.Tie as tie
-use Rattle.report.proofs.report_for.Reads as reads
-use Rattle.report.proofs.report_for.Lts as lts
-use Rattle.judge.proofs.judge_model.Reads as judge-model-reads
-use Rattle.judge.proofs.judge_tableau.Reads as judge-tableau-reads
-use Rattle.report.proofs.model_report.Reads as model-report-reads
-use Rattle.report.proofs.tableau_report.Reads as tableau-report-reads
-use Rattle.wire.proofs.begins.Reads as begins-reads
 
 slice-aggregate-begins : tie.Need-slice-aggregate-begins
 slice-aggregate-begins c = search needs

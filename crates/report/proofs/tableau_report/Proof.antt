@@ -4,10 +4,6 @@ use mathlib.Core.Path.{refl}
 use borrow.Author.Needs.{needs}
 use Rattle.report.proofs.tableau_report.Statement.{statement}
 use Rattle.report.proofs.tableau_report.Tie as tie
-use Rattle.report.proofs.tableau_report.Reads as reads
-use Rattle.report.proofs.tableau_report.Lts as lts
-use Rattle.tableau.proofs.finding.TableauRefusal.number.Reads as number-reads
-use Rattle.tableau.proofs.finding.TableauRefusal.place.Reads as place-reads
 
 enum-known-finding : tie.Need-enum-known-finding
 enum-known-finding c = search needs

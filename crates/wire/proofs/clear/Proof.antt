@@ -10,8 +10,6 @@ use lib.ListN.{length, drop, replicate, length-set, drop-of-length-le}
 use borrow.Author.Needs.{needs}
 use borrow.Author.Fill.{fill-none, fill-more}
 use Rattle.wire.proofs.clear.Tie as tie
-use Rattle.wire.proofs.clear.Reads as reads
-use Rattle.wire.proofs.clear.Lts as lts
 
 abbrev Inv-loop : tie.InvT-loop
 Inv-loop s₀ i₀ s i = (i ≤ length s₀) × (length s ≡ length s₀) × (s ≡ replicate i 0 ++ drop i s₀)

@@ -4,12 +4,6 @@ use mathlib.Core.Path.{refl}
 use borrow.Author.Needs.{needs}
 use Rattle.judge.proofs.exports.model_answer.Statement.{statement}
 use Rattle.judge.proofs.exports.model_answer.Tie as tie
-use Rattle.judge.proofs.exports.model_answer.Reads as reads
-use Rattle.judge.proofs.exports.model_answer.Lts as lts
-use Rattle.judge.proofs.exports.packed.Reads as packed-reads
-use Rattle.judge.proofs.exports.refused_answer.Reads as refused-answer-reads
-use Rattle.model.proofs.judge.JudgeRefusal.number.Reads as number-reads
-use Rattle.model.proofs.judge.JudgeRefusal.place.Reads as place-reads
 
 enum-known-f : tie.Need-enum-known-f
 enum-known-f c = search needs

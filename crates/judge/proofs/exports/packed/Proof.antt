@@ -5,8 +5,6 @@ use Rattle.judge.specs.Packed.{packed}
 use borrow.Author.Needs.{needs}
 use Rattle.judge.proofs.exports.packed.Statement.{statement}
 use Rattle.judge.proofs.exports.packed.Tie as tie
-use Rattle.judge.proofs.exports.packed.Reads as reads
-use Rattle.judge.proofs.exports.packed.Lts as lts
 
 mul-high : tie.Need-mul-high
 mul-high c = search needs

@@ -3,9 +3,6 @@
 use borrow.Author.Needs.{needs}
 use Rattle.judge.proofs.exports.refused_answer.Statement.{statement}
 use Rattle.judge.proofs.exports.refused_answer.Tie as tie
-use Rattle.judge.proofs.exports.refused_answer.Reads as reads
-use Rattle.judge.proofs.exports.refused_answer.Lts as lts
-use Rattle.judge.proofs.exports.packed.Reads as packed-reads
 
 packed-requires : tie.Need-packed-requires
 packed-requires c κs = search needs

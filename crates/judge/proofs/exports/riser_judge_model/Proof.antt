@@ -5,10 +5,6 @@ use Rattle.judge.specs.Unpacked.{model-told}
 use borrow.Author.Needs.{needs}
 use Rattle.judge.proofs.exports.riser_judge_model.Statement.{statement}
 use Rattle.judge.proofs.exports.riser_judge_model.Tie as tie
-use Rattle.judge.proofs.exports.riser_judge_model.Reads as reads
-use Rattle.judge.proofs.exports.riser_judge_model.Lts as lts
-use Rattle.judge.proofs.exports.model_answer.Reads as model-answer-reads
-use Rattle.judge.proofs.judge_model.Reads as judge-model-reads
 
 judge-model-requires : tie.Need-judge-model-requires
 judge-model-requires c κs = search needs

@@ -5,10 +5,6 @@ use Rattle.judge.specs.Unpacked.{tableau-told}
 use borrow.Author.Needs.{needs}
 use Rattle.judge.proofs.exports.riser_judge_tableau.Statement.{statement}
 use Rattle.judge.proofs.exports.riser_judge_tableau.Tie as tie
-use Rattle.judge.proofs.exports.riser_judge_tableau.Reads as reads
-use Rattle.judge.proofs.exports.riser_judge_tableau.Lts as lts
-use Rattle.judge.proofs.exports.tableau_answer.Reads as tableau-answer-reads
-use Rattle.judge.proofs.judge_tableau.Reads as judge-tableau-reads
 
 judge-tableau-requires : tie.Need-judge-tableau-requires
 judge-tableau-requires c κs = search needs

@@ -6,10 +6,6 @@ use Rattle.judge.specs.Unpacked.{unpackRead, unpack-read}
 use borrow.Author.Needs.{needs}
 use Rattle.judge.proofs.exports.riser_read.Statement.{statement}
 use Rattle.judge.proofs.exports.riser_read.Tie as tie
-use Rattle.judge.proofs.exports.riser_read.Reads as reads
-use Rattle.judge.proofs.exports.riser_read.Lts as lts
-use Rattle.judge.proofs.exports.read_answer.Reads as read-answer-reads
-use Rattle.pattern_read.proofs.read.Reads as read-reads
 
 read-requires : tie.Need-read-requires
 read-requires c κs = search needs

@@ -3,9 +3,6 @@
 use borrow.Author.Needs.{needs}
 use Rattle.nodeset.proofs.NodeSet.insert_if.Statement.{statement}
 use Rattle.nodeset.proofs.NodeSet.insert_if.Tie as tie
-use Rattle.nodeset.proofs.NodeSet.insert_if.Reads as reads
-use Rattle.nodeset.proofs.NodeSet.insert_if.Lts as lts
-use Rattle.nodeset.proofs.NodeSet.insert.Reads as insert-reads
 
 insert-requires : tie.Need-insert-requires
 insert-requires c κs = search needs

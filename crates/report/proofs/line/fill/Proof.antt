@@ -7,11 +7,6 @@ use Rattle.report.specs.Line.{number}
 use Rattle.report.specs.Filling.{filled-none, filled-more}
 use Rattle.report.proofs.line.fill.Statement.{statement}
 use Rattle.report.proofs.line.fill.Tie as tie
-use Rattle.report.proofs.line.fill.Reads as reads
-use Rattle.report.proofs.line.fill.Lts as lts
-use Rattle.report.proofs.line.put.Reads as put-reads
-use Rattle.report.proofs.line.put_number.Reads as put-number-reads
-use Rattle.report.proofs.line.put_pair.Reads as put-pair-reads
 
 enum-known-report : tie.Need-enum-known-report
 enum-known-report c = search needs

@@ -7,9 +7,6 @@ use Prim.Native.Nat.{ℕ, _+_}
 use Rattle.report.specs.Filling.{put-copied}
 use Rattle.report.proofs.line.put.Statement.{statement}
 use Rattle.report.proofs.line.put.Tie as tie
-use Rattle.report.proofs.line.put.Reads as reads
-use Rattle.report.proofs.line.put.Lts as lts
-use Rattle.bytes.proofs.copy.Reads as copy-reads
 
 sub-copy : tie.Need-sub-copy
 sub-copy c = search needs

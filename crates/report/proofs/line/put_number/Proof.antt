@@ -6,10 +6,6 @@ use Rattle.report.specs.Spelling.{five-digits}
 use Rattle.report.specs.Filling.{number-put}
 use Rattle.report.proofs.line.put_number.Statement.{statement}
 use Rattle.report.proofs.line.put_number.Tie as tie
-use Rattle.report.proofs.line.put_number.Reads as reads
-use Rattle.report.proofs.line.put_number.Lts as lts
-use Rattle.io.proofs.decimal.Reads as decimal-reads
-use Rattle.report.proofs.line.put.Reads as put-reads
 
 decimal-requires : tie.Need-decimal-requires
 decimal-requires c κs = search needs

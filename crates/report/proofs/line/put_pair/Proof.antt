@@ -7,10 +7,6 @@ use Rattle.report.specs.Line.{number}
 use Rattle.report.specs.Filling.{filled-none, filled-more}
 use Rattle.report.proofs.line.put_pair.Statement.{statement}
 use Rattle.report.proofs.line.put_pair.Tie as tie
-use Rattle.report.proofs.line.put_pair.Reads as reads
-use Rattle.report.proofs.line.put_pair.Lts as lts
-use Rattle.report.proofs.line.put.Reads as put-reads
-use Rattle.report.proofs.line.put_number.Reads as put-number-reads
 
 put-requires : tie.Need-put-requires
 put-requires c κs = search needs

@@ -3,7 +3,7 @@
 use mathlib.Core.Path.{sym, _∙_}
 use Rattle.lines.specs.Stored.{line-on}
 use Rattle.rules.specs.Rules.{ruleAt}
-use Rattle.steps.specs.Standing.{step-on, room-for}
+use Rattle.steps.specs.AtStep.{step-on, room-for}
 use borrow.Author.Needs.{needs}
 use Rattle.steps.proofs.take.step_outcome.Statement.{statement}
 use Rattle.steps.proofs.take.step_outcome.Tie as tie

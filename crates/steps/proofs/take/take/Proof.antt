@@ -7,7 +7,7 @@ use borrow.Author.Tests.{not-true, not-false}
 use Rattle.rules.specs.Rules.{ruleAt, isUnknown}
 use Rattle.lines.specs.Stored.{linesFrom, length-lines}
 use Rattle.steps.specs.Steps.{fieldFault, stepping}
-use Rattle.steps.specs.Standing.{readable}
+use Rattle.steps.specs.AtStep.{readable}
 use borrow.Author.Needs.{needs}
 use Rattle.steps.proofs.take.take.Statement.{statement}
 use Rattle.steps.proofs.take.take.Tie as tie

@@ -4,9 +4,6 @@ use mathlib.Core.Path.{refl}
 use borrow.Author.Needs.{needs}
 use Rattle.pattern.proofs.table.Kind.is.Statement.{statement}
 use Rattle.pattern.proofs.table.Kind.is.Tie as tie
-use Rattle.pattern.proofs.table.Kind.is.Reads as reads
-use Rattle.pattern.proofs.table.Kind.is.Lts as lts
-use Rattle.pattern.proofs.table.Kind.number.Reads as number-reads
 
 number-requires : tie.Need-number-requires
 number-requires c κs = search needs

@@ -15,7 +15,7 @@ use Rattle.steps.specs.Steps.{fieldFault, placed-on}
 use Rattle.steps.specs.Forms.{LineWithin, formed-within}
 
 -- a pattern's bytes, its number of entries, the bytes of the area, and how many lines the branch has
-pub record Standing (bs : List ℕ) (n : ℕ) (xs : List ℕ) (len : ℕ) : Type 0 where
+pub record AtStep (bs : List ℕ) (n : ℕ) (xs : List ℕ) (len : ℕ) : Type 0 where
   pub pattern-read : readingOf bs ≡ found n
   pub some-line : 0 < len
   pub room : 8 * len ≤ length xs
@@ -27,7 +27,7 @@ pub record Readable (bs xs : List ℕ) (len : ℕ) : Type 0 where
   pub room : 8 * len ≤ length xs
   pub within : (j : ℕ) → j < len → LineWithin bs (lineAt xs j)
 
-pub readable : {bs xs : List ℕ} {n len : ℕ} → Standing bs n xs len → Readable bs xs len
+pub readable : {bs xs : List ℕ} {n len : ℕ} → AtStep bs n xs len → Readable bs xs len
 readable {bs} {xs} {n} at-step =
     record {
       some-line = at-step .some-line;
