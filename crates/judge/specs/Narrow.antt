@@ -154,7 +154,7 @@ module _ (ds : List ℕ) where
   unfolding file.edgeCheck
   edge-narrow i l = search (fault-narrow, lit<)
 
-  records-narrow : file-valid.Header ds
+  records-narrow : file-valid.ValidHeader ds
       → NarrowCheck (eachBelow (nameCount ds) (file.nameCheck ds) then eachBelow (edgeCount ds) (file.edgeCheck ds))
   records-narrow h =
       then-narrow (eachBelow (nameCount ds) (file.nameCheck ds)) (eachBelow (edgeCount ds) (file.edgeCheck ds))

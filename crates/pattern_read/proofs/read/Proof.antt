@@ -9,7 +9,7 @@ use Rattle.pattern.specs.Checks.Range.{eachBelow}
 use Rattle.pattern.specs.File.Table.{isPath}
 use Rattle.pattern.specs.File.Reading.{countOf, headerCheck, entryCheck, rootCheck, patternCheck, readingOf}
 use Rattle.pattern_read.specs.Enums.{checkOf}
-use Rattle.pattern.specs.File.Valid.{Header, header-passes}
+use Rattle.pattern.specs.File.Valid.{ValidHeader, header-passes}
 use Rattle.pattern.specs.Checks.Tests.{asked}
 use Rattle.pattern_read.proofs.read.Statement.{statement}
 use Rattle.pattern_read.proofs.read.Tie as tie
@@ -30,7 +30,7 @@ enum-told c = search needs
 header-passed : (c : tie.After-enum-told) → headerCheck (c .before .before .before .before .args .p .now) ≡ passes
 header-passed c = sym (c .before .before .check-header .ensures) ∙ ap checkOf (c .enum-told .given .1)
 
-header-of : (c : tie.After-enum-told) → Header (c .before .before .before .before .args .p .now)
+header-of : (c : tie.After-enum-told) → ValidHeader (c .before .before .before .before .args .p .now)
 header-of c = header-passes (c .before .before .before .before .args .p .now) (header-passed c)
 
 shared-slice-read-n : tie.Need-shared-slice-read-n
