@@ -1,10 +1,8 @@
 -- The walk over a branch that stands in lent bytes: what it is lent, and what each of its functions answers for.
 -- Assumes nothing.
-use mathlib.Core.Bool.{Bool, true, false}
 use mathlib.Core.List.{List, [], _∷_}
 use mathlib.Core.Path.{_≡_}
-use Prim.Native.Nat.{ℕ, _+_, _-_, _*_, _≤_, _<_, max}
-use lib.Dec.{ltb}
+use Prim.Native.Nat.{ℕ, _+_, _-_, _*_, _≤_, _<_}
 use lib.ListN.{length}
 use Rattle.pattern.specs.declared.types.Name.{Name}
 use Rattle.pattern.specs.declared.types.Sign.{Sign}
@@ -21,16 +19,9 @@ use Rattle.tableau.specs.declared.finding.Closed.{Closed}
 use Rattle.tableau.specs.declared.finding.WalkRefusal.{WalkRefusal}
 use Rattle.branch_walk.specs.declared.walk.Stop.{Stop}
 use Rattle.branch_walk.specs.declared.walk.Advance.{Advance}
-use Rattle.branch_walk.specs.declared.walk.BranchEnd.{BranchEnd}
+use Rattle.branch_end.specs.declared.BranchEnd.{BranchEnd}
 use Rattle.tableau.specs.Run.{run, none, maxLines}
 use Rattle.tableau.specs.Judging.{maxSteps, areaNeed, closedBy, walkNumber, walkPlace}
-
--- ---- the counts, as the code counts
-abbrev pub countClash : ℕ → Counts → Counts
-countClash lines n = record { clashes = n .clashes + 1; forks = n .forks; most = max (n .most) lines }
-
-abbrev pub countFork : Counts → Counts
-countFork n = record { clashes = n .clashes; forks = n .forks + 1; most = n .most }
 
 -- ---- what one conclusion does to a branch of so many lines
 
@@ -141,12 +132,3 @@ pub record Walks (bs ss : List ℕ) (s : ℕ) (xs : List ℕ) (k len waiting : �
 -- what is found of the bytes of s steps, for a pattern of n entries and a start name
 abbrev pub stepsFound : List ℕ → ℕ → List ℕ → Name → ℕ → Finding Closed
 stepsFound bs n ss start s = closedBy s (run bs ((has Sign.Positive start (n - 1) ∷ []) ∷ []) (stepsFrom ss 0 s) 0 none)
-
-abbrev pub finishedIf : Bool → ℕ → ℕ → Counts → Finding Closed
-finishedIf true s k c = refused 25 k
-finishedIf false s k c = closedBy s (found c)
-
--- what is found where the walk over the first branch ends so, of s steps: "25, all branches already closed"
-abbrev pub finished : ℕ → BranchEnd → Finding Closed
-finished s (BranchEnd.Closed k c) = finishedIf (ltb k s) s k c
-finished s (BranchEnd.Refused refusal) = refused (walkNumber refusal) (walkPlace refusal)

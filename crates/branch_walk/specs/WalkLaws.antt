@@ -30,12 +30,13 @@ use Rattle.tableau.specs.declared.finding.Counts.{Counts}
 use Rattle.tableau.specs.declared.finding.WalkRefusal.{WalkRefusal}
 use Rattle.branch_walk.specs.declared.walk.Stop.{Stop}
 use Rattle.branch_walk.specs.declared.walk.Advance.{Advance}
-use Rattle.branch_walk.specs.declared.walk.BranchEnd.{BranchEnd}
+use Rattle.branch_end.specs.declared.BranchEnd.{BranchEnd}
+use Rattle.branch_end.specs.Ends.{countClash, countFork, finishedIf, finished}
 use Rattle.tableau.specs.Run.{run, maxLines, maxWaiting, longest, further, limitsCheck, branches, counted, none}
 use Rattle.tableau.specs.RunCloses.{same-counts}
 use Rattle.tableau.specs.Judging.{maxSteps, areaNeed, closedBy, clears, areaAfter, walkNumber}
 use Rattle.rules.specs.Sides.{sides}
-use Rattle.branch_walk.specs.Walk.{countClash, countFork, putLines, pushed, advanceOf, WalkLent, remaining, Leaves, Onto, StepConcludes, StopSays, Stops, Advances, Bounded, ClosedAt, WalkSays, Walks, finishedIf, finished}
+use Rattle.branch_walk.specs.Walk.{putLines, pushed, advanceOf, WalkLent, remaining, Leaves, Onto, StepConcludes, StopSays, Stops, Advances, Bounded, ClosedAt, WalkSays, Walks}
 
 -- ---- the counts
 

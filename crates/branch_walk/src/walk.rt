@@ -1,6 +1,10 @@
 // The walk over the branches of a tableau. Line k of the branch that is being checked stands in block k
 // of the area; at a fork nothing is copied, since the lines before it stay where they are and those of
 // a side that is closed are dead.
+use branch_end::BranchEnd;
+use branch_end::finish;
+use branch_end::with_clash;
+use branch_end::with_fork;
 use lines::line::HasLine;
 use lines::line::Line;
 use lines::store;
@@ -10,10 +14,8 @@ use rules::conclusion::Conclusion;
 use steps::step::Step;
 use steps::step::StepAnswer;
 use steps::take::take;
-use tableau::finding::Closed;
 use tableau::finding::Counts;
 use tableau::finding::TableauFinding;
-use tableau::finding::TableauRefusal;
 use tableau::finding::WalkRefusal;
 use wire::clear;
 ghost use mathlib.Core.Path.{_≡_};
@@ -28,7 +30,7 @@ ghost use Rattle.branch_walk.specs.declared.walk.Advance.{Advance};
 ghost use Rattle.rules.specs.Sides.{sides};
 ghost use Rattle.tableau.specs.Run.{longest, maxLines, maxWaiting};
 ghost use Rattle.tableau.specs.Judging.{maxSteps, areaNeed, areaAfter, findingOf};
-ghost use Rattle.branch_walk.specs.Walk.{Bounded, WalkLent, countClash, countFork, advanceOf, pushed, Advances, Stops, Walks, finished, stepsFound};
+ghost use Rattle.branch_walk.specs.Walk.{Bounded, WalkLent, advanceOf, pushed, Advances, Stops, Walks, stepsFound};
 
 // Document 01's bounds: the lines of a branch, and the right sides that wait.
 const MAX_LINES: u16 = 1024;
@@ -47,13 +49,6 @@ pub enum Stop {
 pub enum Advance {
     Grown(u16),
     Stopped(Stop),
-}
-
-// How the walk over a branch ends: it is closed, with the number of the next step and the counts; or
-// a refusal.
-pub enum BranchEnd {
-    Closed(u16, Counts),
-    Refused(WalkRefusal),
 }
 
 // The number of lines that a conclusion adds to a branch, or to each side.
@@ -152,39 +147,6 @@ fn straight(p: &[u8], n: u8, steps: &[u8], s: u16, area: &mut [u8], k: u16, len:
     Stop::Refused(WalkRefusal::StillOpen(s))
 }
 
-// The counts with a clash on a branch of so many lines.
-fn with_clash(c: Counts, len: u16) -> Counts
-    requires { ⌜ c .clashes < 65535 ⌝ }
-    ensures { λ r. ⌜ r ≡ countClash len c ⌝ }
-{
-    let clashes = c.clashes + 1;
-    let forks = c.forks;
-    if c.most < len {
-        return Counts {
-            clashes,
-            forks,
-            most: len,
-        };
-    }
-    Counts {
-        clashes,
-        forks,
-        most: c.most,
-    }
-}
-
-// The counts with a fork.
-fn with_fork(c: Counts) -> Counts
-    requires { ⌜ c .forks < 65535 ⌝ }
-    ensures { λ r. ⌜ r ≡ countFork c ⌝ }
-{
-    Counts {
-        clashes: c.clashes,
-        forks: c.forks + 1,
-        most: c.most,
-    }
-}
-
 // Walks over a branch of so many lines, from step k on, with so many right sides waiting: to its clash,
 // or at a fork over the left side and then over the right side. The number of unread steps falls.
 fn walk(
@@ -220,26 +182,6 @@ fn walk(
                     walk(p, n, steps, s, area, next, lines + 1, waiting, counted)
                 }
             }
-        }
-    }
-}
-
-// The finding where the walk over the first branch ends so: steps that are left are refused.
-fn finish(end: BranchEnd, s: u16) -> TableauFinding
-    ensures { λ r. ⌜ findingOf r ≡ finished s end ⌝ }
-{
-    match end {
-        BranchEnd::Refused(refusal) => TableauFinding::Refused(TableauRefusal::Walk(refusal)),
-        BranchEnd::Closed(k, counts) => {
-            if k < s {
-                return TableauFinding::Refused(TableauRefusal::Walk(WalkRefusal::AllClosed(k)));
-            }
-            TableauFinding::Closed(Closed {
-                steps: s,
-                clashes: counts.clashes,
-                forks: counts.forks,
-                most: counts.most,
-            })
         }
     }
 }

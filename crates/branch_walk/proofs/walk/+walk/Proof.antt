@@ -14,8 +14,8 @@ use Rattle.branch_walk.proofs.walk.walk.Kinds as walk-kinds
 use Rattle.branch_walk.proofs.walk.+walk.Lts-walk as walk-lts
 use Rattle.lines.proofs.store.Reads as store-reads
 use Rattle.branch_walk.proofs.walk.straight.Reads as straight-reads
-use Rattle.branch_walk.proofs.walk.with_clash.Reads as with-clash-reads
-use Rattle.branch_walk.proofs.walk.with_fork.Reads as with-fork-reads
+use Rattle.branch_end.proofs.with_clash.Reads as with-clash-reads
+use Rattle.branch_end.proofs.with_fork.Reads as with-fork-reads
 use Rattle.branch_walk.proofs.walk.+walk.{statement}
 use Rattle.branch_walk.proofs.walk.+walk.Tie.{close}
 

@@ -1,11 +1,11 @@
--- `branch_walk::walk::with_clash` meets its contract: the larger of the two numbers of lines is kept.
+-- `branch_end::with_clash` meets its contract: the larger of the two numbers of lines is kept.
 -- Assumes nothing.
 use borrow.Author.Needs.{needs}
 use native.Mathlib.Nat.{max-eq-left, max-eq-right, le-of-lt}
 use mathlib.Core.Path.{refl}
 use Prim.Native.Nat.{_≤_, _<_}
-use Rattle.branch_walk.proofs.walk.with_clash.Statement.{statement}
-use Rattle.branch_walk.proofs.walk.with_clash.Tie as tie
+use Rattle.branch_end.proofs.with_clash.Statement.{statement}
+use Rattle.branch_end.proofs.with_clash.Tie as tie
 
 add-clashes : tie.Need-add-clashes
 add-clashes c = search needs

@@ -1,10 +1,10 @@
--- `branch_walk::walk::finish` meets its contract: in each arm the walk's answer is known.
+-- `branch_end::finish` meets its contract: in each arm the walk's answer is known.
 -- Assumes nothing.
 use borrow.Author.Needs.{needs}
 use borrow.Author.Tests.{lt-ltb, le-ltb}
 use mathlib.Core.Path.{refl}
-use Rattle.branch_walk.proofs.walk.finish.Statement.{statement}
-use Rattle.branch_walk.proofs.walk.finish.Tie as tie
+use Rattle.branch_end.proofs.finish.Statement.{statement}
+use Rattle.branch_end.proofs.finish.Tie as tie
 
 enum-known-end : tie.Need-enum-known-end
 enum-known-end c = search needs
