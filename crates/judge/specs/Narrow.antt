@@ -11,6 +11,7 @@ use lib.ListN.{length}
 use borrow.Author.Tests.{ltb-false}
 use Rattle.pattern.specs.Checks.Finding.{Finding, found, refused, Check, passes, refuses, refusesIf, _then_, unless, onward, thereupon, then-passes, refusesIf-passes}
 use Rattle.pattern.specs.Checks.Range.{someBelow, eachBelow}
+use Rattle.pattern.specs.File.Types.{maxName}
 use Rattle.pattern.specs.File.Entries.{maxEntries}
 use Rattle.pattern.specs.File.Reading as reading
 use Rattle.pattern.specs.File.Reading.{countOf, patternCheck, readingOf}
@@ -165,11 +166,19 @@ module _ (ds : List ℕ) where
   unfolding file.modelCheck
   model-narrow = then-narrow (file.headerCheck ds) _ model-header-narrow (λ e. records-narrow (file-valid.header-passes ds e))
 
+-- nor is a name's number above the last
+names-narrow : (bs ds : List ℕ) → NarrowCheck (model.namesCheck bs ds)
+unfolding model.namesCheck
+names-narrow bs ds =
+    fault-narrow (someBelow (maxName + 1) (model.isMissing bs ds)) 27 _ (lit< tt)
+    (lt-of-le-of-lt (lowest-le (maxName + 1) (model.isMissing bs ds)) (lit< tt))
+
 pub model-judging-narrow : (bs ds : List ℕ) (size : ℕ) → NarrowFinding NarrowJudged (model.judgingOf bs ds size)
 unfolding model.judgingOf model.judgingCheck
 model-judging-narrow bs ds size =
     unless-narrow NarrowJudged (model.judgingCheck bs ds size) _
-    (begins-narrow bs (ltb size (model.areaNeed bs)) (file.modelCheck ds) (model-narrow ds))
+    (begins-narrow bs (ltb size (model.areaNeed bs)) (file.modelCheck ds then model.namesCheck bs ds)
+    (then-narrow (file.modelCheck ds) (model.namesCheck bs ds) (model-narrow ds) (λ e. names-narrow bs ds)))
     (λ e. judged-narrow (nodeCount ds) _ (omega (arith, model.checks-pass bs ds size .0 e .2 .header .narrow)))
 
 -- ---- judging a tableau

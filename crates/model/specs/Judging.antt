@@ -1,16 +1,23 @@
--- Judging a model, 01's "Findings": the refusals in its order, the finding, what becomes of the working area, and what a finding says.
+-- Judging a model, 01's "Findings" and 02's Job 1: the refusals in their order, the finding, what becomes of the working area, and what a
+-- finding says.
 -- Assumes nothing.
-use mathlib.Core.Path.{_≡_, sym, _∙_, ap, subst}
+use mathlib.Core.Path.{_≡_, refl, sym, _∙_, ap, subst}
+use mathlib.Core.Bool.{Bool, true, false, not, _&&_, false≢true}
 use mathlib.Core.Logic.{_↔_}
 use mathlib.Core.List.{List}
-use Prim.Native.Nat.{ℕ, _≤_}
+use Prim.Native.Nat.{ℕ, _+_, _≤_, _<_}
+use native.Mathlib.Omega.{arith}
 use lib.Dec.{ltb}
 use borrow.Author.Tests.{lt-ltb, le-ltb, ltb-false}
 use Rattle.wire.specs.Cleared.{cleared}
 use Rattle.pattern.specs.Checks.Finding.{Finding, found, refused, Check, passes, refuses, refusesIf, _then_, unless, then-passes, refusesIf-passes, found-passes}
+use Rattle.pattern.specs.Checks.Range.{someBelow, some-at, none-at, none-below}
+use Rattle.pattern.specs.File.Types.{maxName}
 use Rattle.pattern.specs.File.Reading.{countOf, patternCheck}
 use Rattle.pattern.specs.File.Valid.{Valid, passes-valid, valid-passes}
 use Rattle.pattern.specs.Meaning.Expression.{rootOf}
+use Rattle.pattern.specs.Meaning.Names.{usesName, used-in-range}
+use Rattle.nodeset.specs.Below.{lowestBelow, lowest-holds, lowest-first}
 use Rattle.nodeset.specs.declared.NodeSet.{NodeSet}
 use Rattle.nodeset.specs.Set.{width, has}
 use Rattle.decision.specs.Decision.{holdsTest}
@@ -18,8 +25,8 @@ use Rattle.decision.specs.Judged.{Judged, met, unmet, judgedBy, judgedOf, Says,
 use Rattle.pattern.specs.File.Reading as reading
 use Rattle.model_file.specs.Checks as file
 use Rattle.model_file.specs.Layout.{nodeCount}
-use Rattle.decision.specs.Root.{rootHolds}
-use Rattle.model_file.specs.Contents.{modelFrom}
+use Rattle.decision.specs.Root.{rootHolds, renamed, judged-renamed}
+use Rattle.model_file.specs.Contents.{isListed, nodeNamed, modelFrom}
 use Rattle.model_file.specs.Checks.{modelCheck}
 use Rattle.model_file.specs.Valid.{ValidModel, model-valid, model-accepted, all-named}
 use Rattle.model.specs.declared.judge.JudgeRefusal.{JudgeRefusal}
@@ -34,9 +41,17 @@ areaNeed bs = 2040
 abbrev pub areaCheck : List ℕ → ℕ → Check
 areaCheck bs size = refusesIf (ltb size (areaNeed bs)) 9 0
 
+-- the pattern uses name i, and the model doesn't list it
+abbrev pub isMissing : List ℕ → List ℕ → ℕ → Bool
+isMissing bs ds i = usesName bs i && not (isListed ds i)
+
+-- 02, Job 1: "27, after every 14 check, when the model doesn't list a name of the pattern, place the lowest such name."
+unfoldable pub namesCheck : List ℕ → List ℕ → Check
+namesCheck bs ds = refusesIf (someBelow (maxName + 1) (isMissing bs ds)) 27 (lowestBelow (maxName + 1) (isMissing bs ds))
+
 -- "Refused 1 to 8 as above. 9: .. 10: .." and on, for a working area of this many bytes
 unfoldable pub judgingCheck : List ℕ → List ℕ → ℕ → Check
-judgingCheck bs ds size = patternCheck bs then areaCheck bs size then modelCheck ds
+judgingCheck bs ds size = patternCheck bs then areaCheck bs size then modelCheck ds then namesCheck bs ds
 
 -- "Judging a model gives met (lowest node, number of nodes) or unmet": of the root, in the data model that the file denotes
 unfoldable pub judgingOf : List ℕ → List ℕ → ℕ → Finding Judged
@@ -47,25 +62,32 @@ abbrev pub areaAfter : List ℕ → Finding Judged → List ℕ → List ℕ
 areaAfter bs (found j) area = cleared (areaNeed bs) area
 areaAfter bs (refused number place) area = area
 
+-- 02, Job 1: "A name used in the pattern must be listed in the model"
+abbrev pub NamesListed : List ℕ → List ℕ → Type 0
+NamesListed bs ds = (i : ℕ) → usesName bs i ≡ true → isListed ds i ≡ true
+
 -- What a finding says: nothing was to be refused, and j is so of the root under the published satisfaction relation, in the data model
 -- that the bytes denote.
 pub record Judgement (bs ds : List ℕ) (size : ℕ) (j : Judged) : Type 0 where
   pub pattern-valid : Valid bs (countOf bs)
   pub area-long : areaNeed bs ≤ size
   pub model-valid : ValidModel ds
+  pub names-listed : NamesListed bs ds
   -- `all-named` is the proof that every name has a node; nothing depends on which proof it is
   pub says : Says (modelFrom ds) (all-named model-valid) (rootOf bs) j
 
--- the code's answers, by 01's numbers and values
+-- the code's answers, by the documents' numbers and values
 abbrev pub refusalNumber : JudgeRefusal → ℕ
 refusalNumber (JudgeRefusal.Pattern refusal) = reading.refusalNumber refusal
 refusalNumber JudgeRefusal.Area = 9
 refusalNumber (JudgeRefusal.Model refusal) = file.refusalNumber refusal
+refusalNumber (JudgeRefusal.Unlisted name) = 27
 
 abbrev pub refusalPlace : JudgeRefusal → ℕ
 refusalPlace (JudgeRefusal.Pattern refusal) = reading.refusalPlace refusal
 refusalPlace JudgeRefusal.Area = 0
 refusalPlace (JudgeRefusal.Model refusal) = file.refusalPlace refusal
+refusalPlace (JudgeRefusal.Unlisted name) = name
 
 abbrev pub findingOf : ModelFinding → Finding Judged
 findingOf (ModelFinding.Met lowest number) = found (met lowest number)
@@ -79,27 +101,68 @@ abbrev pub checkOf : JudgeCheck → Check
 checkOf JudgeCheck.Passed = passes
 checkOf (JudgeCheck.Refused refusal) = refuses (refusalNumber refusal) (refusalPlace refusal)
 
+-- ---- the names of the pattern
+
+missing-not : (used listed : Bool) → used && not listed ≡ false → used ≡ true → listed ≡ true
+missing-not true true h e = refl
+missing-not true false h e = sym h
+missing-not false listed h e = absurd (false≢true e)
+
+listed-so : (used listed : Bool) → (used ≡ true → listed ≡ true) → used && not listed ≡ false
+listed-so true listed h = ap not (h refl)
+listed-so false listed h = refl
+
+-- the check of the names passes exactly where all are listed
+pub names-pass : (bs ds : List ℕ) → Valid bs (countOf bs) → (namesCheck bs ds ≡ passes) ↔ NamesListed bs ds
+unfolding namesCheck
+names-pass bs ds ok = (apart, together)
+  where
+    apart : namesCheck bs ds ≡ passes → NamesListed bs ds
+    apart h i used =
+        missing-not (usesName bs i) (isListed ds i)
+        (none-at (isMissing bs ds) (maxName + 1) i (refusesIf-passes _ 27 _ h) (let l = used-in-range ok i used in omega arith)) used
+
+    together : NamesListed bs ds → namesCheck bs ds ≡ passes
+    together h = rw (none-below (isMissing bs ds) (maxName + 1) (λ i l. listed-so (usesName bs i) (isListed ds i) (h i)))
+
+-- it goes by the lowest missing name: one in range is the place of the refusal, and where none is, the check passes
+pub lowest-refused : (bs ds : List ℕ) → lowestBelow (maxName + 1) (isMissing bs ds) ≤ maxName
+    → namesCheck bs ds ≡ refuses 27 (lowestBelow (maxName + 1) (isMissing bs ds))
+unfolding namesCheck
+lowest-refused bs ds l =
+    let less : lowestBelow (maxName + 1) (isMissing bs ds) < maxName + 1 = omega arith in
+    rw (some-at (isMissing bs ds) (maxName + 1) _ less (lowest-holds (maxName + 1) (isMissing bs ds) less))
+
+pub lowest-passes : (bs ds : List ℕ) → maxName < lowestBelow (maxName + 1) (isMissing bs ds) → namesCheck bs ds ≡ passes
+unfolding namesCheck
+lowest-passes bs ds l = rw (none-below (isMissing bs ds) (maxName + 1) (λ i h. lowest-first (maxName + 1) (isMissing bs ds) i (omega arith)))
+
+-- ---- what is found
+
 -- the checks pass exactly where nothing is to be refused
 pub checks-pass : (bs ds : List ℕ) (size : ℕ)
-    → (judgingCheck bs ds size ≡ passes) ↔ (Valid bs (countOf bs) × (areaNeed bs ≤ size) × ValidModel ds)
+    → (judgingCheck bs ds size ≡ passes) ↔ (Valid bs (countOf bs) × (areaNeed bs ≤ size) × ValidModel ds × NamesListed bs ds)
 unfolding judgingCheck
 checks-pass bs ds size = (apart, together)
   where
-    apart : patternCheck bs then areaCheck bs size then modelCheck ds ≡ passes → Valid bs (countOf bs) × (areaNeed bs ≤ size) × ValidModel ds
+    apart : judgingCheck bs ds size ≡ passes → Valid bs (countOf bs) × (areaNeed bs ≤ size) × ValidModel ds × NamesListed bs ds
     apart h =
-        let a = then-passes (patternCheck bs) (areaCheck bs size then modelCheck ds) h in
-        let b = then-passes (areaCheck bs size) (modelCheck ds) (a .1) in
-        (passes-valid bs (a .0), ltb-false size (areaNeed bs) (refusesIf-passes _ 9 0 (b .0)), model-valid ds (b .1))
+        let a = then-passes (patternCheck bs) (areaCheck bs size then modelCheck ds then namesCheck bs ds) h in
+        let b = then-passes (areaCheck bs size) (modelCheck ds then namesCheck bs ds) (a .1) in
+        let c = then-passes (modelCheck ds) (namesCheck bs ds) (b .1) in
+        let ok = passes-valid bs (a .0) in
+        (ok, ltb-false size (areaNeed bs) (refusesIf-passes _ 9 0 (b .0)), model-valid ds (c .0), names-pass bs ds ok .0 (c .1))
 
-    together : Valid bs (countOf bs) × (areaNeed bs ≤ size) × ValidModel ds → patternCheck bs then areaCheck bs size then modelCheck ds ≡ passes
-    together h = rw (valid-passes bs (countOf bs) (h .0), le-ltb size (areaNeed bs) (h .1), model-accepted ds (h .2))
+    together : Valid bs (countOf bs) × (areaNeed bs ≤ size) × ValidModel ds × NamesListed bs ds → judgingCheck bs ds size ≡ passes
+    together h =
+        rw (valid-passes bs (countOf bs) (h .0), le-ltb size (areaNeed bs) (h .1), model-accepted ds (h .2)) (names-pass bs ds (h .0) .1 (h .3))
 
 -- Demand 2 for models: judging finds j exactly where j is so.
 pub judging-says : (bs ds : List ℕ) (size : ℕ) (j : Judged) → (judgingOf bs ds size ≡ found j) ↔ Judgement bs ds size j
 unfolding judgingOf
 judging-says bs ds size j = (apart, together)
   where
-    apart : unless (judgingCheck bs ds size) (judgedOf (modelFrom ds) (rootOf bs)) ≡ found j → Judgement bs ds size j
+    apart : judgingOf bs ds size ≡ found j → Judgement bs ds size j
     apart h =
         let r = found-passes (judgingCheck bs ds size) (judgedOf (modelFrom ds) (rootOf bs)) j h in
         let c = checks-pass bs ds size .0 (r .0) in
@@ -107,13 +170,43 @@ judging-says bs ds size j = (apart, together)
           pattern-valid = c .0;
           area-long = c .1;
           model-valid = c .2;
+          names-listed = c .3;
           says = judged-says (modelFrom ds) (all-named (c .2)) (rootOf bs) j .0 (r .1);
         }
 
-    together : Judgement bs ds size j → unless (judgingCheck bs ds size) (judgedOf (modelFrom ds) (rootOf bs)) ≡ found j
+    together : Judgement bs ds size j → judgingOf bs ds size ≡ found j
     together h =
-        rw (checks-pass bs ds size .1 (h .pattern-valid, h .area-long, h .model-valid))
+        rw (checks-pass bs ds size .1 (h .pattern-valid, h .area-long, h .model-valid, h .names-listed))
         (ap found (judged-says (modelFrom ds) (all-named (h .model-valid)) (rootOf bs) j .1 (h .says)))
+
+-- a model that lists the names of the pattern is judged as it was before 02's Job 1, without its check
+pub listed-as-before : (bs ds : List ℕ) (size : ℕ) → NamesListed bs ds
+    → judgingOf bs ds size ≡ unless (patternCheck bs then areaCheck bs size then modelCheck ds) (judgedOf (modelFrom ds) (rootOf bs))
+unfolding judgingOf judgingCheck namesCheck
+listed-as-before bs ds size h =
+    rw (none-below (isMissing bs ds) (maxName + 1) (λ i l. listed-so (usesName bs i) (isListed ds i) (h i)))
+    (ap (λ (c : Check). unless c (judgedOf (modelFrom ds) (rootOf bs))) (last-passes (patternCheck bs) (areaCheck bs size) (modelCheck ds)))
+  where
+    last-passes : (a b c : Check) → a then b then c then passes ≡ a then b then c
+    last-passes (refuses number place) b c = refl
+    last-passes passes (refuses number place) c = refl
+    last-passes passes passes (refuses number place) = refl
+    last-passes passes passes passes = refl
+
+-- "Readings without names keep their findings.": so is any model, for a pattern that uses no name
+pub nameless-as-before : (bs ds : List ℕ) (size : ℕ) → ((i : ℕ) → usesName bs i ≡ false)
+    → judgingOf bs ds size ≡ unless (patternCheck bs then areaCheck bs size then modelCheck ds) (judgedOf (modelFrom ds) (rootOf bs))
+nameless-as-before bs ds size none = listed-as-before bs ds size (λ i used. absurd (false≢true (sym (none i) ∙ used)))
+
+-- "node 0 stands in only for names that the pattern doesn't use": whatever nodes they named instead, the finding would be the same
+pub stand-in-unseen : (bs ds : List ℕ) (size : ℕ) (j : Judged) → judgingOf bs ds size ≡ found j
+    → (named : ℕ → ℕ) → ((i : ℕ) → named i < nodeCount ds) → ((i : ℕ) → isListed ds i ≡ true → named i ≡ nodeNamed ds i)
+    → judgedOf (renamed (modelFrom ds) named) (rootOf bs) ≡ j
+stand-in-unseen bs ds size j found-j named within same =
+    let h = judging-says bs ds size j .0 found-j in
+    let ok = all-named (h .model-valid) in
+    judged-renamed (h .pattern-valid) (modelFrom ds) ok named within (λ i used. same i (h .names-listed i used))
+    ∙ judged-says (modelFrom ds) ok (rootOf bs) j .1 (h .says)
 
 -- a set that has the nodes where the root holds, and no other number, is judged as the definition says
 pub root-judged : (bs : List ℕ) {ds : List ℕ} (ok : ValidModel ds) (s : NodeSet) → ((u : ℕ) → has s u ≡ rootHolds bs (modelFrom ds) u)

@@ -3,29 +3,35 @@
 use model_file::ModelCheck;
 use model_file::ModelRefusal;
 use model_file::check;
+use model_file::listed_names;
 use model_tables::root_nodes;
+use names::used_names;
 use nodeset::NodeSet;
 use pattern::entry::MAX_ENTRIES;
 use pattern::finding::PatternRead;
 use pattern::finding::PatternRefusal;
+use pattern::types::Name;
 use pattern_read::read;
 ghost use mathlib.Core.Path.{_≡_};
 ghost use lib.ListN.{length};
 ghost use Rattle.nodeset.specs.Set.{width, has};
 ghost use Rattle.pattern.specs.Checks.Finding.{found};
+ghost use Rattle.pattern.specs.File.Reading.{readingOf};
 ghost use Rattle.decision.specs.Judged.{judgedBy};
-ghost use Rattle.model.specs.Judging.{judgingCheck, judgingOf, areaAfter, refusalNumber, refusalPlace, checkOf, findingOf};
+ghost use Rattle.model_file.specs.Valid.{ValidModel};
+ghost use Rattle.model.specs.Judging.{namesCheck, judgingCheck, judgingOf, areaAfter, refusalNumber, refusalPlace, checkOf, findingOf};
 
-// Document 01's refusals of judging a model: 1 to 8 of the pattern, 9 of the working area, 10 to 14
-// of the model file.
+// The refusals of judging a model: document 01's 1 to 8 of the pattern, 9 of the working area and 10 to
+// 14 of the model file, and document 02's 27, which holds the name that isn't listed.
 pub enum JudgeRefusal {
     Pattern(PatternRefusal),
     Area,
     Model(ModelRefusal),
+    Unlisted(u8),
 }
 
 impl JudgeRefusal {
-    // Document 01's number of the refusal.
+    // The documents' number of the refusal.
     pub fn number(self) -> u8
         ensures { λ r. ⌜ r ≡ refusalNumber self ⌝ }
     {
@@ -33,10 +39,11 @@ impl JudgeRefusal {
             JudgeRefusal::Pattern(refusal) => refusal.number(),
             JudgeRefusal::Area => 9,
             JudgeRefusal::Model(refusal) => refusal.number(),
+            JudgeRefusal::Unlisted(_) => 27,
         }
     }
 
-    // Its place: the number of the entry or of the record, or 0.
+    // Its place: the number of the entry or of the record, the name, or 0.
     pub fn place(self) -> u16
         ensures { λ r. ⌜ r ≡ refusalPlace self ⌝ }
     {
@@ -44,11 +51,12 @@ impl JudgeRefusal {
             JudgeRefusal::Pattern(refusal) => refusal.place() as u16,
             JudgeRefusal::Area => 0,
             JudgeRefusal::Model(refusal) => refusal.place(),
+            JudgeRefusal::Unlisted(name) => name as u16,
         }
     }
 }
 
-// How refusals 1 to 14 came out.
+// How the refusals came out.
 enum JudgeCheck {
     Passed,
     Refused(JudgeRefusal),
@@ -65,20 +73,37 @@ pub enum ModelFinding {
 // The bytes that judging wants of its working area, and zeroes: a node set for each entry, 2,040.
 pub const AREA: usize = NodeSet::BYTES * MAX_ENTRIES;
 
-// Refusals 1 to 14, for a working area of this many bytes.
+// Refusal 27: a name that the pattern, of n entries, uses and the model doesn't list; the lowest.
+fn check_names(p: &[u8], n: u8, d: &[u8]) -> JudgeCheck
+    requires { ⌜ readingOf (now p) ≡ found n ⌝ }
+    requires { ⌜ ValidModel (now d) ⌝ }
+    ensures { λ r. ⌜ checkOf r ≡ namesCheck (now (p .entry)) (now (d .entry)) ⌝ }
+{
+    let unlisted = used_names(p, n).minus(listed_names(d));
+    let lowest = unlisted.lowest();
+    if lowest <= Name::MAX {
+        return JudgeCheck::Refused(JudgeRefusal::Unlisted(lowest));
+    }
+    JudgeCheck::Passed
+}
+
+// All refusals, in their order, for a working area of this many bytes.
 fn check_all(p: &[u8], d: &[u8], size: usize) -> JudgeCheck
     ensures { λ r. ⌜ checkOf r ≡ judgingCheck (now (p .entry)) (now (d .entry)) size ⌝ }
 {
-    if let PatternRead::Refused(refusal) = read(p) {
-        return JudgeCheck::Refused(JudgeRefusal::Pattern(refusal));
-    }
+    let n = match read(p) {
+        PatternRead::Refused(refusal) => {
+            return JudgeCheck::Refused(JudgeRefusal::Pattern(refusal));
+        }
+        PatternRead::Read(n) => n,
+    };
     if size < AREA {
         return JudgeCheck::Refused(JudgeRefusal::Area);
     }
     if let ModelCheck::Refused(refusal) = check(d) {
         return JudgeCheck::Refused(JudgeRefusal::Model(refusal));
     }
-    JudgeCheck::Passed
+    check_names(p, n, d)
 }
 
 // The finding of the set of the nodes at which the root holds.

@@ -3,7 +3,7 @@
 use mathlib.Core.Bool.{Bool, _&&_}
 use mathlib.Core.List.{List}
 use Prim.Native.Nat.{ℕ, _^_, _/_, _%_}
-use lib.Dec.{leb, ltb, eqb}
+use lib.Dec.{leb, eqb}
 use Rattle.wire.specs.Choice.{pick}
 use Rattle.nodeset.specs.Below.{lowestBelow}
 use Rattle.pattern.specs.Logic.Finite.{Finite}
@@ -27,13 +27,22 @@ hasProperty ds p u = eqb (propertySet ds u / 2 ^ p % 2) 1
 abbrev pub valueIn : List ℕ → ℕ → ℕ → ℕ
 valueIn ds e u = pick (leb e maxChannel) (valueOn ds e u) 0
 
+-- name record j lists name i
+abbrev pub recordLists : List ℕ → ℕ → ℕ → Bool
+recordLists ds i j = eqb (nameOf ds j) i
+
+-- 02, Job 1, "listed in the model": some name record lists name i
+unfoldable pub isListed : List ℕ → ℕ → Bool
+isListed ds i = someBelow (nameCount ds) (recordLists ds i)
+
 -- the name record that lists name i; the count of the name records where none does
 abbrev pub recordOfName : List ℕ → ℕ → ℕ
-recordOfName ds i = lowestBelow (nameCount ds) (λ j. eqb (nameOf ds j) i)
+recordOfName ds i = lowestBelow (nameCount ds) (recordLists ds i)
 
--- 01: "Names not listed name node 0.": the node of the record that lists the name, node 0 where none does
+-- the node of the record that lists the name. 01: "Names not listed name node 0."; 02, Job 1: "node 0 stands in only for names that the
+-- pattern doesn't use", since a model that doesn't list one that it uses is refused (27)
 unfoldable pub nodeNamed : List ℕ → ℕ → ℕ
-nodeNamed ds i = pick (ltb (recordOfName ds i) (nameCount ds)) (nodeOfRecord ds (recordOfName ds i)) 0
+nodeNamed ds i = pick (isListed ds i) (nodeOfRecord ds (recordOfName ds i)) 0
 
 -- 01: "A data model has one or more nodes, edges per axis, a property set and four data values per node, and a node for every name."
 abbrev pub modelFrom : List ℕ → Finite

@@ -10,14 +10,14 @@ use lib.Dec.{leb, ltb, eqb}
 use borrow.Author.Tests.{eqb-false, eqb-true, ltb-false, ltb-true, leb-true, ne-eqb, eq-eqb, le-ltb, lt-ltb, le-leb, not-false}
 use Rattle.wire.specs.Fields.{beginsWith, wordAt}
 use Rattle.wire.specs.Choice.{pick}
-use Rattle.nodeset.specs.Below.{lowest-holds, lowest-is}
+use Rattle.nodeset.specs.Below.{lowest-below, lowest-is}
 use Rattle.pattern.specs.Logic.Finite.{Named}
 use Rattle.pattern.specs.File.Types.{maxName, maxAxis}
 use Rattle.pattern.specs.Checks.Tests.{or-is-false, and-is-true}
 use Rattle.pattern.specs.Checks.Finding.{passes, _then_, then-passes, refusesIf-passes}
-use Rattle.pattern.specs.Checks.Range.{eachBelow, each-at, each-below, none-at, none-below, some-found}
+use Rattle.pattern.specs.Checks.Range.{eachBelow, each-at, each-below, none-at, none-below, some-at, some-found}
 use Rattle.model_file.specs.Layout.{mark, nodeCount, maxNodes, nameCount, maxNames, edgeCount, maxEdges, lengthOf, nameOf, nodeOfRecord, fromOf, axisOf, toOf}
-use Rattle.model_file.specs.Contents.{recordLeads, leadsIn, recordOfName, nodeNamed, modelFrom}
+use Rattle.model_file.specs.Contents.{recordLeads, leadsIn, recordLists, isListed, recordOfName, nodeNamed, modelFrom}
 use Rattle.model_file.specs.Checks.{markCheck, versionCheck, countCheck, headerCheck, repeatsName, nameCheck, edgeCheck, modelCheck}
 
 -- a header that meets the checks 10 to 12
@@ -162,22 +162,25 @@ model-accepted ds h =
 module _ {ds : List ℕ} (ok : ValidModel ds) where
   -- "a node for every name"
   pub all-named : Named (modelFrom ds)
-  unfolding nodeNamed
-  all-named i = go (ltb (recordOfName ds i) (nameCount ds)) refl
+  unfolding nodeNamed isListed
+  all-named i = go (isListed ds i) refl
     where
-      go : (t : Bool) → ltb (recordOfName ds i) (nameCount ds) ≡ t → pick t (nodeOfRecord ds (recordOfName ds i)) 0 < nodeCount ds
-      go true e = ok .names (recordOfName ds i) (ltb-true _ _ e) .node-within
+      go : (t : Bool) → isListed ds i ≡ t → pick t (nodeOfRecord ds (recordOfName ds i)) 0 < nodeCount ds
+      go true e =
+          let r = some-found (recordLists ds i) (nameCount ds) e in
+          ok .names (recordOfName ds i) (lowest-below (nameCount ds) (recordLists ds i) (r .0) (r .1) (r .2)) .node-within
       go false e = ok .header .some-node
 
   -- the name of a record is the name of the record's node
   pub listed : (j : ℕ) → j < nameCount ds → modelFrom ds .named (nameOf ds j) ≡ nodeOfRecord ds j
-  unfolding nodeNamed
-  listed j l = rw (here, lt-ltb j (nameCount ds) l)
+  unfolding nodeNamed isListed
+  listed j l = rw (some-at (recordLists ds (nameOf ds j)) (nameCount ds) j l own, here)
     where
+      own : recordLists ds (nameOf ds j) j ≡ true
+      own = eq-eqb (nameOf ds j) (nameOf ds j) refl
+
       here : recordOfName ds (nameOf ds j) ≡ j
-      here =
-          lowest-is (nameCount ds) (λ k. eqb (nameOf ds k) (nameOf ds j)) j l (eq-eqb (nameOf ds j) (nameOf ds j) refl)
-          (λ k g. ne-eqb _ _ (ok .names j l .different k g))
+      here = lowest-is (nameCount ds) (recordLists ds (nameOf ds j)) j l own (λ k g. ne-eqb _ _ (ok .names j l .different k g))
 
   -- an edge leads from a node to a node, on an axis
   pub edge-in : (a u v : ℕ) → modelFrom ds .edge a u v ≡ true → (u < nodeCount ds) × (a ≤ maxAxis) × (v < nodeCount ds)
@@ -195,11 +198,5 @@ module _ {ds : List ℕ} (ok : ValidModel ds) where
 
 -- "Names not listed name node 0."
 pub unlisted : (ds : List ℕ) (i : ℕ) → ((j : ℕ) → j < nameCount ds → nameOf ds j ≡ i → ⊥) → modelFrom ds .named i ≡ 0
-unfolding nodeNamed
-unlisted ds i none = go (ltb (recordOfName ds i) (nameCount ds)) refl
-  where
-    go : (t : Bool) → ltb (recordOfName ds i) (nameCount ds) ≡ t → pick t (nodeOfRecord ds (recordOfName ds i)) 0 ≡ 0
-    go true e =
-        let l = ltb-true (recordOfName ds i) (nameCount ds) e in
-        absurd (none (recordOfName ds i) l (eqb-true _ _ (lowest-holds (nameCount ds) (λ j. eqb (nameOf ds j) i) l)))
-    go false e = refl
+unfolding nodeNamed isListed
+unlisted ds i none = rw (none-below (recordLists ds i) (nameCount ds) (λ j l. ne-eqb _ _ (none j l)))

@@ -1,7 +1,9 @@
-// The model file: the fields of its records, and its checks, document 01's refusals 10 to 14, in its
-// order. Each check answers that it passed or the refusal, and the first refusal decides.
+// The model file: the fields of its records, its checks, document 01's refusals 10 to 14, in its
+// order, and the names that it lists. Each check answers that it passed or the refusal, and the first
+// refusal decides.
 mod records;
 
+use names::NameSet;
 use nodeset::NodeSet;
 use pattern::types::Axis;
 use pattern::types::AxisMade;
@@ -23,9 +25,12 @@ ghost use Prim.Native.Nat.{_+_, _≤_};
 ghost use lib.ListN.{length};
 ghost use lib.Dec.{leb};
 ghost use Rattle.pattern.specs.File.Types.{maxName, maxAxis};
+ghost use Rattle.names.specs.Set.{HasExactly};
 ghost use Rattle.pattern.specs.Checks.Range.{eachBelow};
 ghost use Rattle.model_file.specs.Layout.{nameCount, edgeCount, nameRecord, edgeRecord, lengthOf};
 ghost use Rattle.model_file.specs.Checks.{countsWrong, headerCheck, repeatsName, nameCheck, edgeCheck, modelCheck, refusalNumber, refusalPlace, checkOf};
+ghost use Rattle.model_file.specs.Contents.{isListed};
+ghost use Rattle.model_file.specs.Valid.{ValidModel};
 
 // Document 01's bounds of the three counts.
 const MAX_NODES: u8 = NodeSet::WIDTH;
@@ -229,4 +234,19 @@ pub fn check(d: &[u8]) -> ModelCheck
         return ModelCheck::Refused(refusal);
     }
     check_edges(d)
+}
+
+// The names that a file that passed its checks lists.
+pub fn listed_names(d: &[u8]) -> NameSet
+    requires { ⌜ ValidModel (now d) ⌝ }
+    ensures { λ r. ⌜ HasExactly (isListed (now (d .entry))) r ⌝ }
+{
+    let m = name_count(d);
+    let mut names = NameSet::empty();
+    let mut j = 0;
+    while j < m {
+        names = names.insert(name_of(d, j));
+        j += 1;
+    }
+    names
 }

@@ -3,9 +3,11 @@
 use mathlib.Core.Path.{_≡_, refl, sym, _∙_, ap}
 use mathlib.Core.Bool.{Bool, true, false, true≢false}
 use mathlib.Core.Logic.{_⊎_, inl, inr}
-use Prim.Native.Nat.{ℕ, zero, suc, _+_, _≤_, _<_}
+use Prim.Native.Nat.{ℕ, zero, suc, _+_, _-_, _≤_, _<_}
 use native.Mathlib.Omega.{arith}
 use native.Mathlib.Nat.{not-suc-le-zero, le-of-suc-le-suc, eq-or-lt-of-le, lt-of-lt-of-le, zero-lt-suc, lt-suc-self, le-step}
+use lib.Dec.{ltb}
+use borrow.Author.Tests.{ltb-true, ltb-false}
 use Rattle.wire.specs.Choice.{pick}
 
 -- 01, "lowest node": the lowest number below n that passes; n itself where none does
@@ -74,6 +76,30 @@ lowest-below n test k h e = go (eq-or-lt-of-le (lowest-le n test))
     go : (lowestBelow n test ≡ n) ⊎ (lowestBelow n test < n) → lowestBelow n test < n
     go (inl p) = absurd (true≢false (sym e ∙ lowest-first n test k (omega arith)))
     go (inr l) = l
+
+-- where no number below n passes, the lowest is among those from n on
+pub lowest-past : (n m : ℕ) (test : ℕ → Bool) → ((k : ℕ) → k < n → test k ≡ false)
+    → lowestBelow (n + m) test ≡ n + lowestBelow m (λ k. test (n + k))
+lowest-past n m test none = go (eq-or-lt-of-le (lowest-le m later)) (eq-or-lt-of-le (lowest-le (n + m) test))
+  where
+    later : ℕ → Bool
+    later k = test (n + k)
+
+    first : (k : ℕ) → k < n + lowestBelow m later → test k ≡ false
+    first k h = side (ltb k n) refl
+      where
+        side : (b : Bool) → ltb k n ≡ b → test k ≡ false
+        side true e = none k (ltb-true k n e)
+        side false e =
+            let far = ltb-false k n e in
+            let same : k ≡ n + (k - n) = omega arith in
+            ap test same ∙ lowest-first m later (k - n) (omega arith)
+
+    go : (lowestBelow m later ≡ m) ⊎ (lowestBelow m later < m) → (lowestBelow (n + m) test ≡ n + m) ⊎ (lowestBelow (n + m) test < n + m)
+        → lowestBelow (n + m) test ≡ n + lowestBelow m later
+    go (inr l) r = lowest-is (n + m) test (n + lowestBelow m later) (omega arith) (lowest-holds m later l) first
+    go (inl p) (inl q) = omega arith
+    go (inl p) (inr l) = absurd (true≢false (sym (lowest-holds (n + m) test l) ∙ first (lowestBelow (n + m) test) (omega arith)))
 
 pub lowest-wider : (n m : ℕ) (test : ℕ → Bool) (k : ℕ) → n ≤ m → k < n → test k ≡ true → lowestBelow m test ≡ lowestBelow n test
 lowest-wider n m test k w h e =

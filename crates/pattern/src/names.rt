@@ -5,17 +5,24 @@ use crate::types::Name;
 ghost use mathlib.Core.Path.{_≡_};
 ghost use Rattle.pattern.specs.Checks.Finding.{found};
 ghost use Rattle.pattern.specs.File.Reading.{readingOf};
-ghost use Rattle.pattern.specs.Meaning.Names.{hasName, usesName};
+ghost use Rattle.pattern.specs.Meaning.Names.{holdsName, hasName, usesName};
 
-// Whether an entry has the name: it is of kind name or jump, and its field x is the name.
+// Whether an entry of the kind has a name: its field x.
+pub fn holds_name(kind: Kind) -> bool
+    ensures { λ r. ⌜ r ≡ holdsName kind ⌝ }
+{
+    if kind.is(Kind::Name) {
+        return true;
+    }
+    kind.is(Kind::Jump)
+}
+
+// Whether an entry has the name.
 fn has_name(e: Entry, name: Name) -> bool
     ensures { λ r. ⌜ r ≡ hasName (e .kind) (e .x) (name .number) ⌝ }
 {
     let kind = e.kind;
-    if kind.is(Kind::Name) {
-        return e.x == name.number;
-    }
-    if kind.is(Kind::Jump) {
+    if holds_name(kind) {
         return e.x == name.number;
     }
     false

@@ -1,7 +1,8 @@
--- 01's bench readings A to J, in one list, shown of the definitions by one result: what the program prints, what reading a pattern gives,
--- and what judging every model gives.
+-- 01's bench readings A to J, and readings of 02's jobs, in one list, shown of the definitions by one result: what the program prints, what
+-- reading a pattern gives, and what judging every model gives.
 -- Assumes nothing.
-use mathlib.Core.Path.{_≡_, refl, _∙_, ap, subst}
+use mathlib.Core.Path.{_≡_, refl, sym, _∙_, ap, subst}
+use mathlib.Core.Bool.{false, false≢true}
 use mathlib.Core.Logic.{_⊎_, inl, inr}
 use mathlib.Core.List.{List, [], _∷_, _++_}
 use Prim.Native.Nat.{ℕ, _≤_}
@@ -22,11 +23,11 @@ use Rattle.decision.specs.Decision.{holdsTest, leadsTest}
 use Rattle.decision.specs.Judged.{unmet, judgedBy, judgedOf, judged-says}
 use Rattle.pattern.specs.Meaning.Names.{usesName}
 use Rattle.model_file.specs.Layout as layout
-use Rattle.model_file.specs.Contents.{leadsIn, nodeNamed, modelFrom}
+use Rattle.model_file.specs.Contents.{leadsIn, isListed, nodeNamed, modelFrom}
 use Rattle.model_file.specs.Checks as file
 use Rattle.model_file.specs.Checks.{nameCheck, edgeCheck, modelCheck}
 use Rattle.model_file.specs.Valid.{ValidModel, all-named}
-use Rattle.model.specs.Judging.{areaNeed, judgingCheck, judgingOf, checks-pass, judging-finds, judging-refuses}
+use Rattle.model.specs.Judging.{areaNeed, namesCheck, judgingCheck, judgingOf, NamesListed, checks-pass, judging-finds, judging-refuses}
 use Rattle.lines.specs.Lines.{branchHas}
 use Rattle.rules.specs.Rules.{ruleAt}
 use Rattle.steps.specs.Steps.{stepAt, stepsFrom, stepping}
@@ -135,8 +136,25 @@ J =
     × (readingOf (patternFile 2 (9 ∷ 128 ∷ 255 ∷ 0 ∷ 6 ∷ 0 ∷ 0 ∷ 0 ∷ [])) ≡ refused 5 0)
     × (readingOf (patternFile 2 (9 ∷ 127 ∷ 255 ∷ 0 ∷ 6 ∷ 0 ∷ 0 ∷ 0 ∷ [])) ≡ found 2)
 
+-- 02, Job 1: "A name used in the pattern must be listed in the model .. Turned away: 27, after every 14 check, when the model doesn't list a
+-- name of the pattern, place the lowest such name." Name 6, listed as node 1 and not listed; names 9 and 5, of which the root doesn't reach
+-- the first, with 5 listed and with neither; an edge out of range beside a name that isn't listed.
+abbrev pub pattern6 : List ℕ
+pattern6 = patternFile 1 (2 ∷ 6 ∷ 0 ∷ 0 ∷ [])
+
+abbrev pub patternJump : List ℕ
+patternJump = patternFile 2 (9 ∷ 9 ∷ 255 ∷ 0 ∷ 2 ∷ 5 ∷ 0 ∷ 0 ∷ [])
+
+abbrev pub Job1 : Type 0
+Job1 =
+    Prints pattern6 (modelFile 2 1 0 (node 0 ++ node 0 ++ (6 ∷ 1 ∷ []))) "met 1 1"
+    × Prints pattern6 (modelFile 2 0 0 (node 0 ++ node 0)) "refused 27 6"
+    × Prints patternJump (modelFile 1 1 0 (node 0 ++ (5 ∷ 0 ∷ []))) "refused 27 9"
+    × Prints patternJump (modelFile 1 0 0 (node 0)) "refused 27 5"
+    × Prints pattern6 (modelFile 1 0 1 (node 0 ++ (0 ∷ 0 ∷ 1 ∷ []))) "refused 14 0"
+
 abbrev pub readings : List (Type 0)
-readings = A ∷ B ∷ C ∷ D ∷ E ∷ F ∷ G ∷ H ∷ I ∷ J ∷ []
+readings = A ∷ B ∷ C ∷ D ∷ E ∷ F ∷ G ∷ H ∷ I ∷ J ∷ Job1 ∷ []
 
 -- ---- laws
 
@@ -158,12 +176,20 @@ reads-I : readingOf patternI ≡ found 1
 unfolding readingOf patternCheck headerCheck entryCheck rootCheck eachField someBelow eachBelow sameBytes
 reads-I = refl
 
+-- and uses no name
+nameless-I : (i : ℕ) → usesName patternI i ≡ false
+unfolding usesName someBelow
+nameless-I i = refl
+
 I-holds : I
 I-holds = (always-unmet, files, any)
   where
+    listed : (ds : List ℕ) → NamesListed patternI ds
+    listed ds i used = absurd (false≢true (sym (nameless-I i) ∙ used))
+
     files : (ds : List ℕ) (size : ℕ) → ValidModel ds → areaNeed patternI ≤ size → judgingOf patternI ds size ≡ found unmet
     files ds size ok l =
-        judging-finds patternI ds size (checks-pass patternI ds size .1 (valid patternI 1 reads-I, l, ok)) ∙ ap found (always-unmet (modelFrom ds) (all-named ok))
+        judging-finds patternI ds size (checks-pass patternI ds size .1 (valid patternI 1 reads-I, l, ok, listed ds)) ∙ ap found (always-unmet (modelFrom ds) (all-named ok))
 
     any : (ds : List ℕ) (size : ℕ)
         → (judgingOf patternI ds size ≡ found unmet) ⊎ ((number : ℕ) × ((place : ℕ) × (judgingOf patternI ds size ≡ refused number place)))
@@ -175,5 +201,5 @@ I-holds = (always-unmet, files, any)
         go (refuses number place) e = inr (number, (place, judging-refuses patternI ds size number place e))
 
 pub readings-hold : All readings
-unfolding readingOf patternCheck headerCheck entryCheck rootCheck eachField someBelow eachBelow sameBytes judgingOf judgingCheck modelCheck file.headerCheck nameCheck edgeCheck nodeAt nodeWithin pathWithin holdsTest leadsTest judgedBy lowestBelow countBelow leadsIn nodeNamed tableau.judgingOf tableau.judgingCheck tableau.headerCheck tableau.runOf run stepping ruleAt stepAt stepsFrom branchHas usesName digitsWithin
-readings-hold = (refl, (refl, (refl, (refl, (refl, (refl, (refl, (refl, (I-holds, ((refl, refl, refl, refl), tt))))))))))
+unfolding readingOf patternCheck headerCheck entryCheck rootCheck eachField someBelow eachBelow sameBytes judgingOf judgingCheck namesCheck modelCheck file.headerCheck nameCheck edgeCheck isListed nodeAt nodeWithin pathWithin holdsTest leadsTest judgedBy lowestBelow countBelow leadsIn nodeNamed tableau.judgingOf tableau.judgingCheck tableau.headerCheck tableau.runOf run stepping ruleAt stepAt stepsFrom branchHas usesName digitsWithin
+readings-hold = (refl, (refl, (refl, (refl, (refl, (refl, (refl, (refl, (I-holds, ((refl, refl, refl, refl), ((refl, refl, refl, refl, refl), tt)))))))))))

@@ -3,7 +3,8 @@
 use mathlib.Core.Path.{_≡_, refl}
 use mathlib.Core.Bool.{Bool, true, false, _||_, or-true, false≢true}
 use mathlib.Core.Logic.{_⊎_, inl, inr}
-use Prim.Native.Nat.{ℕ, zero, suc, _<_}
+use Prim.Native.Nat.{ℕ, zero, suc, _+_, _<_}
+use native.Mathlib.Omega.{arith}
 use native.Mathlib.Nat.{not-suc-le-zero, le-of-suc-le-suc, eq-or-lt-of-le, lt-trans, lt-suc-self}
 use Rattle.pattern.specs.Checks.Tests.{or-is-false, or-is-true}
 use Rattle.pattern.specs.Checks.Finding.{Check, passes, refuses, _then_, then-passes}
@@ -44,6 +45,10 @@ module _ (test : ℕ → Bool) where
       go : (k ≡ n) ⊎ (k < n) → (someBelow n test ≡ false) × (test n ≡ false) → (k < n → test k ≡ false) → test k ≡ false
       go (inl p) b f = rw p (b .1)
       go (inr l) b f = f l
+
+  pub some-next : (n : ℕ) → someBelow (n + 1) test ≡ someBelow n test || test n
+  unfolding someBelow
+  some-next n = let e : n + 1 ≡ suc n = omega arith in rw e
 
   pub some-found : (n : ℕ) → someBelow n test ≡ true → (k : ℕ) × (k < n) × (test k ≡ true)
   unfolding someBelow

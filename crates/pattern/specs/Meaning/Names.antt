@@ -1,30 +1,36 @@
 -- Which names a pattern uses, and that no other name bears on what its entries mean.
 -- Assumes nothing.
 use mathlib.Core.Path.{_≡_, refl, sym, subst}
-use mathlib.Core.Bool.{Bool, true, false, _&&_, _||_}
+use mathlib.Core.Bool.{Bool, true, false, false≢true, _&&_, _||_}
 use mathlib.Core.Logic.{_⊎_, inl, inr}
 use mathlib.Core.List.{List}
 use mathlib.Core.WellFounded.{WellFounded·induction}
-use Prim.Native.Nat.{ℕ, _<_}
+use Prim.Native.Nat.{ℕ, _≤_, _<_}
 use native.Mathlib.Nat.{lt-trans}
 use lib.WfN.{Nat·lt-wfRel}
 use lib.Dec.{eqb}
-use borrow.Author.Tests.{eq-eqb}
+use borrow.Author.Tests.{eq-eqb, eqb-true}
 use Rattle.pattern.specs.declared.table.Kind.{Kind}
+use Rattle.pattern.specs.File.Types.{maxName}
 use Rattle.pattern.specs.Logic.Syntax.{NExp, PExp}
 use Rattle.pattern.specs.Logic.Semantics.{Model, Naming, Leads, Holds}
 use Rattle.pattern.specs.Logic.Coincidence.{OfNames, OfNamesP, same-holds, same-leads}
-use Rattle.pattern.specs.Checks.Range.{someBelow, some-at, none-below}
+use Rattle.pattern.specs.Checks.Tests.{and-is-true}
+use Rattle.pattern.specs.Checks.Range.{someBelow, some-at, none-below, some-found}
 use Rattle.pattern.specs.File.Entries.{entryAt}
 use Rattle.pattern.specs.File.Reading.{countOf}
 use Rattle.pattern.specs.File.Fields.{OfReferences, map-references}
-use Rattle.pattern.specs.File.Table.{endOfPath, sameKind}
-use Rattle.pattern.specs.File.Valid.{Valid, EarlierPath, refers-at}
+use Rattle.pattern.specs.File.Table.{endOfPath, sameKind, formOf}
+use Rattle.pattern.specs.File.Valid.{Valid, EarlierPath, Within, within-at, refers-at}
 use Rattle.pattern.specs.Meaning.Expression.{nodeExpression, pathExpression, nodeAt, pathAt, node-at, path-at, end-at}
 
--- an entry of this kind with x for its first field has the name: it is "of kind 2 or 9", and x is the name
+-- an entry of this kind has a name: it is "of kind 2 or 9"
+abbrev pub holdsName : Kind → Bool
+holdsName κ = sameKind κ Kind.Name || sameKind κ Kind.Jump
+
+-- an entry of this kind with x for its first field has the name i
 abbrev pub hasName : Kind → ℕ → ℕ → Bool
-hasName κ x i = (sameKind κ Kind.Name || sameKind κ Kind.Jump) && eqb x i
+hasName κ x i = holdsName κ && eqb x i
 
 -- entry k has the name
 abbrev pub entryUses : List ℕ → ℕ → ℕ → Bool
@@ -72,10 +78,38 @@ module _ (Q : ℕ → Type 0) (N : ℕ → NExp) (P : ℕ → PExp) (x y z : ℕ
 abbrev pub Reference : ℕ → ℕ → Type 0
 Reference n v = (v ≡ endOfPath) ⊎ (v < n)
 
+-- a field that is a name is in range where the entry's fields are
+name-within : (κ : Kind) {x : ℕ} → Within (formOf κ .x) x → holdsName κ ≡ true → x ≤ maxName
+name-within Kind.Property w h = absurd (false≢true h)
+name-within Kind.Name w h = w
+name-within Kind.Not w h = absurd (false≢true h)
+name-within Kind.Both w h = absurd (false≢true h)
+name-within Kind.After w h = absurd (false≢true h)
+name-within Kind.Same w h = absurd (false≢true h)
+name-within Kind.Differ w h = absurd (false≢true h)
+name-within Kind.Step w h = absurd (false≢true h)
+name-within Kind.Jump w h = w
+name-within Kind.Test w h = absurd (false≢true h)
+name-within Kind.Fork w h = absurd (false≢true h)
+name-within Kind.Unknown w h = absurd (false≢true h)
+
+-- the name of an entry that has one is in range
+pub name-at : {bs : List ℕ} {n : ℕ} → Valid bs n → (k : ℕ) → k < n → holdsName (entryAt bs k .kind) ≡ true → entryAt bs k .x ≤ maxName
+name-at {bs} ok k l = name-within (entryAt bs k .kind) (within-at ok k l .0)
+
 module _ {bs : List ℕ} {n : ℕ} (ok : Valid bs n) (i : ℕ) where
   pub uses-at : (k : ℕ) → k < n → entryUses bs i k ≡ true → usesName bs i ≡ true
   unfolding usesName
   uses-at k l h = some-at (entryUses bs i) (countOf bs) k (rw (ok .count-is) l) h
+
+  -- a name that is used is in range
+  pub used-in-range : usesName bs i ≡ true → i ≤ maxName
+  unfolding usesName
+  used-in-range h =
+      let r = some-found (entryUses bs i) (countOf bs) h in
+      let e = entryAt bs (r .0) in
+      let b = and-is-true (holdsName (e .kind)) (eqb (e .x) i) (r .2) in
+      rw (eqb-true (e .x) i (b .1)) at (name-at ok (r .0) (subst (λ (m : ℕ). r .0 < m) (ok .count-is) (r .1)) (b .0))
 
   pub unused : ((k : ℕ) → k < n → entryUses bs i k ≡ false) → usesName bs i ≡ false
   unfolding usesName

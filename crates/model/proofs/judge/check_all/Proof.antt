@@ -1,13 +1,15 @@
--- `model::judge::check_all` meets its contract: the checks are those of `judgingCheck`, in its order.
+-- `model::judge::check_all` meets its contract: the checks are those of `judgingCheck`, in its order. What each check that passed shows is
+-- said once, at the place behind it.
 -- Assumes nothing.
 use borrow.Author.Needs.{needs}
-use mathlib.Core.Path.{_≡_, sym, _∙_, ap}
-use Rattle.pattern.specs.Checks.Finding.{passes}
-use Rattle.pattern.specs.File.Reading.{patternCheck, findingOf}
-use Rattle.pattern.specs.File.Valid.{read-passes, read-refuses}
-use Rattle.model_file.specs.Checks.{checkOf}
-use Rattle.model.specs.Judging.{judgingCheck}
 use borrow.Author.Tests.{lt-ltb, le-ltb}
+use mathlib.Core.Path.{_≡_, sym, _∙_, ap}
+use Rattle.pattern.specs.Checks.Finding.{found, passes}
+use Rattle.pattern.specs.File.Reading.{patternCheck, readingOf, findingOf}
+use Rattle.pattern.specs.File.Valid.{read-passes, read-refuses}
+use Rattle.model_file.specs.Checks.{modelCheck, checkOf}
+use Rattle.model_file.specs.Valid.{model-valid}
+use Rattle.model.specs.Judging.{judgingCheck}
 use Rattle.model.proofs.judge.check_all.Statement.{statement}
 use Rattle.model.proofs.judge.check_all.Tie as tie
 
@@ -22,17 +24,21 @@ unfolding judgingCheck
 returns c = let r = c .before .before .before in
     rw (read-refuses (r .before .before .before .args .p .now) _ _ (sym (r .read .ensures) ∙ ap findingOf (c .before .refusal .given .1)))
 
-enum-told : tie.Need-enum-told
-enum-told c = search needs
+enum-known-n : tie.Need-enum-known-n
+enum-known-n c = search needs
 
-pattern-passed : (c : tie.After-enum-told) → patternCheck (c .before .before .before .before .before .args .p .now) ≡ passes
-pattern-passed c =
-    let r = c .before .before in
-    read-passes (r .before .before .before .args .p .now) _ (sym (r .read .ensures) ∙ ap findingOf (c .enum-told .given .1)) .0
+-- the pattern was read, and has n entries
+pattern-read : (c : tie.After-n) → readingOf (c .before .before .before .before .before .args .p .now) ≡ found (c .n .given .0 .0)
+pattern-read c = sym (c .before .before .read .ensures) ∙ ap findingOf (c .n .given .1)
+
+pattern-passed : (c : tie.After-n) → patternCheck (c .before .before .before .before .before .args .p .now) ≡ passes
+pattern-passed c = read-passes (c .before .before .before .before .before .args .p .now) _ (pattern-read c) .0
 
 returns-2 : tie.Need-returns-2
 unfolding judgingCheck
-returns-2 c = rw (pattern-passed (c .before), lt-ltb (c .before .before .before .before .before .before .args .size) 2040 (c .if1 .taken))
+returns-2 c =
+    let n = c .before .before in
+    rw (pattern-passed n, lt-ltb (n .before .before .before .before .before .args .size) 2040 (c .if1 .taken))
 
 check-requires : tie.Need-check-requires
 check-requires c κs = search needs
@@ -43,15 +49,31 @@ enum-known-refusal-2 c = search needs
 returns-3 : tie.Need-returns-3
 unfolding judgingCheck
 returns-3 c = let k = c .before .before .before in
-    rw (pattern-passed (k .before .before), le-ltb _ 2040 (k .before .if1 .left), sym (k .check .ensures) ∙ ap checkOf (c .before .refusal2 .given .1))
+    rw (
+      pattern-passed (k .before .before .before),
+      le-ltb _ 2040 (k .before .if1 .left),
+      sym (k .check .ensures) ∙ ap checkOf (c .before .refusal2 .given .1),
+    )
 
-enum-told-2 : tie.Need-enum-told-2
-enum-told-2 c = search needs
+enum-told : tie.Need-enum-told
+enum-told c = search needs
+
+model-passed : (c : tie.After-enum-told)
+    → modelCheck (c .before .before .before .before .before .before .before .before .before .before .args .d .now) ≡ passes
+model-passed c = sym (c .before .before .check .ensures) ∙ ap checkOf (c .enum-told .given .1)
+
+check-names-requires : tie.Need-check-names-requires
+check-names-requires c κs = (pattern-read (c .before .before .before .before .before), model-valid _ (model-passed c))
 
 returns-4 : tie.Need-returns-4
 unfolding judgingCheck
-returns-4 c = let k = c .before .before in
-    rw (pattern-passed (k .before .before), le-ltb _ 2040 (k .before .if1 .left), sym (k .check .ensures) ∙ ap checkOf (c .enum-told2 .given .1))
+returns-4 c = let k = c .before in
+    rw (
+      pattern-passed (k .before .before .before .before .before),
+      le-ltb _ 2040 (k .before .before .before .if1 .left),
+      model-passed k,
+    )
+    (c .check-names .ensures)
 
 pub check-all-spec : {M : Type 1} → statement M
 check-all-spec =
@@ -60,10 +82,11 @@ check-all-spec =
     read-requires
     enum-known-refusal
     returns
-    enum-told
+    enum-known-n
     returns-2
     check-requires
     enum-known-refusal-2
     returns-3
-    enum-told-2
+    enum-told
+    check-names-requires
     returns-4)

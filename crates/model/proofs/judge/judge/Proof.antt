@@ -10,7 +10,7 @@ use Rattle.pattern.specs.Checks.Finding.{found, passes}
 use Rattle.pattern.specs.File.Reading.{countOf}
 use Rattle.pattern.specs.File.Valid.{Valid, valid-read}
 use Rattle.model_file.specs.Valid.{ValidModel}
-use Rattle.model.specs.Judging.{areaNeed, judgingCheck, checkOf, checks-pass, judging-finds, judging-refuses, root-judged}
+use Rattle.model.specs.Judging.{areaNeed, NamesListed, judgingCheck, checkOf, checks-pass, judging-finds, judging-refuses, root-judged}
 use Rattle.model.proofs.judge.judge.Statement.{statement}
 use Rattle.model.proofs.judge.judge.Tie as tie
 
@@ -40,6 +40,7 @@ checked c = sym (c .before .before .check-all .ensures) ∙ ap checkOf (c .enum-
 allowed : (c : tie.After-enum-told)
     → let a = c .before .before .before .before .before .before .args in
     Valid (a .p .now) (countOf (a .p .now)) × (areaNeed (a .p .now) ≤ length (a .area .now)) × ValidModel (a .d .now)
+    × NamesListed (a .p .now) (a .d .now)
 allowed c =
     let a = c .before .before .before .before .before .before .args in
     checks-pass (a .p .now) (a .d .now) (length (a .area .now)) .0 (checked c)
