@@ -94,4 +94,9 @@ impl Pattern {
     pub fn uses(&self, name: u8) -> bool {
         self.entries.iter().any(|entry| entry.name() == Some(name))
     }
+
+    /// The names that it uses, lowest first.
+    pub fn names(&self) -> impl Iterator<Item = u8> {
+        (0..=MAX_NAME).filter(|&name| self.uses(name))
+    }
 }
