@@ -95,6 +95,18 @@ impl Pattern {
         self.entries.iter().any(|entry| entry.name() == Some(name))
     }
 
+    /// Which entries the root reaches. References go to earlier entries, so one sweep backwards finds all.
+    pub fn reached(&self) -> Vec<bool> {
+        let mut reached = vec![false; self.entries.len()];
+        reached[self.entries.len() - 1] = true;
+        for number in (0..self.entries.len()).rev() {
+            if reached[number] {
+                self.entries[number].references().for_each(|referred| reached[referred] = true);
+            }
+        }
+        reached
+    }
+
     /// The names that it uses, lowest first.
     pub fn names(&self) -> impl Iterator<Item = u8> {
         (0..=MAX_NAME).filter(|&name| self.uses(name))
