@@ -34,10 +34,10 @@ fn node(random: &mut Random) -> Node {
 fn names(random: &mut Random, pattern: &Pattern, vocabulary: Vocabulary, nodes: usize) -> Vec<(u8, u8)> {
     let mut names: Vec<u8> = pattern.names().collect();
     match random.below(16) {
-        0..3 if !names.is_empty() => {
+        0..2 if !names.is_empty() => {
             names.swap_remove(random.below(names.len()));
         }
-        3 => names.retain(|_| random.once_in(2)),
+        2..4 => names.retain(|_| random.once_in(2)),
         _ => {}
     }
     for _ in 0..random.below(6) {
