@@ -39,6 +39,13 @@ fn is_seen(fault: Fault) {
     assert!(matches!(what, What::Finding { .. }), "{what:?}");
 }
 
+/// Asserts that a fault in judging a model, one of several, is seen as another finding.
+fn is_seen_among(words: &str, fault: &(dyn Fn(Operation, Lent) -> Finding + Sync)) {
+    let Err(failure) = planted(fault) else { panic!("not seen: {words}") };
+    let what = failure.difference.what;
+    assert!(matches!(what, What::Finding { .. }), "{words}: {what:?}");
+}
+
 fn tally(run: Run) -> Tally {
     run.go(&[ORACLE, UNIT])
         .unwrap_or_else(|failure| panic!("input {}: {}", failure.number, failure.difference))
@@ -204,20 +211,14 @@ fn a_finding_against_demand_3_is_seen_without_any_other_implementation() {
 #[test]
 fn misreadings_of_a_model_are_seen() {
     for (words, change) in MISREADINGS {
-        let found = planted(&|operation, lent| misread(change, operation, lent));
-        let Err(failure) = found else { panic!("not seen: {words}") };
-        let what = failure.difference.what;
-        assert!(matches!(what, What::Finding { .. }), "{words}: {what:?}");
+        is_seen_among(words, &|operation, lent| misread(change, operation, lent));
     }
 }
 
 #[test]
 fn mistakes_about_the_names_to_be_listed_are_seen() {
     for (words, place) in MISTAKES {
-        let found = planted(&|operation, lent| mistaken(place, operation, lent));
-        let Err(failure) = found else { panic!("not seen: {words}") };
-        let what = failure.difference.what;
-        assert!(matches!(what, What::Finding { .. }), "{words}: {what:?}");
+        is_seen_among(words, &|operation, lent| mistaken(place, operation, lent));
     }
 }
 

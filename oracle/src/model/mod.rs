@@ -54,7 +54,7 @@ fn admit(pattern: &[u8], model: &[u8], area: usize) -> Result<(Pattern, Model), 
 
 /// Job 1: "27, after every 14 check, when the model doesn't list a name of the pattern, place the lowest such name."
 pub fn check_names(pattern: &Pattern, model: &Model) -> Result<(), Refusal> {
-    match pattern.names().find(|&name| !model.lists(name)) {
+    match pattern.names().into_iter().find(|&name| !model.lists(name)) {
         Some(name) => Err(Refusal { number: 27, place: name.into() }),
         None => Ok(()),
     }

@@ -6,6 +6,7 @@ pub use file::parse;
 pub(crate) use file::{ENTRY_BYTES, HEADER_BYTES};
 
 use crate::finding::Finding;
+use std::collections::BTreeSet;
 
 /// The largest property, name, axis and channel.
 pub const MAX_PROPERTY: u8 = 31;
@@ -107,8 +108,8 @@ impl Pattern {
         reached
     }
 
-    /// The names that it uses, lowest first.
-    pub fn names(&self) -> impl Iterator<Item = u8> {
-        (0..=MAX_NAME).filter(|&name| self.uses(name))
+    /// The names that it uses.
+    pub fn names(&self) -> BTreeSet<u8> {
+        self.entries.iter().filter_map(Entry::name).collect()
     }
 }

@@ -33,7 +33,7 @@ fn any_model(pattern: &Pattern, axes: &[u8], random: &mut Random) -> Model {
         values: std::array::from_fn(|_| random.below(count) as u16),
     };
     let nodes: Vec<Node> = (0..count).map(|_| node()).collect();
-    let names = pattern.names().map(|name| (name, random.below(count) as u8)).collect();
+    let names = pattern.names().into_iter().map(|name| (name, random.below(count) as u8)).collect();
     let sparseness = 1 + random.below(4);
     let mut edges = Vec::new();
     for &axis in axes {

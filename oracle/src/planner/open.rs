@@ -19,7 +19,7 @@ impl Branch<'_> {
             }
         }
         let node_of = |name: u8| kept.iter().position(|&other| other == self.aliases.kept(name));
-        let used = self.setting.pattern.names();
+        let used = self.setting.pattern.names().into_iter();
         let model = Model {
             nodes: kept.iter().map(|&name| self.node(name)).collect(),
             names: used.map(|name| (name, node_of(name).unwrap_or(0) as u8)).collect(),

@@ -32,7 +32,7 @@ fn node(random: &mut Random) -> Node {
 /// Records of different names in any order: the pattern's, now and then without one of them or without some, and
 /// up to five that it doesn't use.
 fn names(random: &mut Random, pattern: &Pattern, vocabulary: Vocabulary, nodes: usize) -> Vec<(u8, u8)> {
-    let mut names: Vec<u8> = pattern.names().collect();
+    let mut names: Vec<u8> = pattern.names().into_iter().collect();
     match random.below(16) {
         0..2 if !names.is_empty() => {
             names.swap_remove(random.below(names.len()));

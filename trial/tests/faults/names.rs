@@ -31,7 +31,7 @@ pub const MISTAKES: [Mistake; 13] = [
     ("names up to 126", |pattern, model| missing(pattern, model).filter(|&name| name < 127).min()),
     ("a set of 64 bits", |pattern, model| missing(pattern, model).map(|name| name % 64).min()),
     ("a name of node 0 isn't listed", |pattern, model| {
-        let names = pattern.names().filter(|&name| model.node_of(name) == 0);
+        let names = pattern.names().into_iter().filter(|&name| model.node_of(name) == 0);
         names.map(u16::from).min()
     }),
     ("no other name may be listed", |pattern, model| {

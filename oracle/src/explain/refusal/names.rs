@@ -11,7 +11,7 @@ pub fn of_names(pattern: &Pattern, model: &Model, refusal: Refusal) -> String {
     let name = refusal.place as u8;
     let removed = format!("Name n{name} of the pattern isn't listed: was its meter removed?");
     let mut details = vec![removed, users(pattern, name)];
-    let others = pattern.names().filter(|&other| other != name && !model.lists(other));
+    let others = pattern.names().into_iter().filter(|&other| other != name && !model.lists(other));
     let others = joined(others.map(|other| format!("n{other}")));
     if !others.is_empty() {
         details.push(format!("Not listed either: {others}."));

@@ -63,7 +63,7 @@ fn counts(random: &mut Random, pattern: &Pattern, file: &mut Vec<u8>, [nodes, na
 /// Every name once, the pattern's first, then the others from 0 up or from 127 down; then what is out of range.
 fn in_turn(pattern: &Pattern, down: bool) -> impl Iterator<Item = u8> {
     let others = (0..128).map(move |name| if down { 127 - name } else { name });
-    pattern.names().chain(others.filter(|&name| !pattern.uses(name))).chain(128..=255)
+    pattern.names().into_iter().chain(others.filter(|&name| !pattern.uses(name))).chain(128..=255)
 }
 
 /// Sets one field of one name or edge record to the end of its range or one over, or makes a name that
