@@ -5,8 +5,8 @@ mod common;
 use common::*;
 use oracle::model::{parse, where_holds};
 
-/// Nodes 0 to 3: property 0 at 1 and 31 at 3; name 7 is node 2, name 9 node 0; axis 1 from 0 to 1 and 2 (one edge twice),
-/// axis 4 from 2 to 3; channel 2 has values 5, 6, 5, 7.
+/// Nodes 0 to 3: property 0 at 1 and 31 at 3; name 7 is node 2, name 9 node 0; axis 1 from 0 to 1 and 2 (one edge
+/// twice), axis 4 from 2 to 3; channel 2 has values 5, 6, 5, 7.
 fn sample() -> Vec<u8> {
     let node = |properties, value| (properties, [0, 0, value, 0]);
     model(
