@@ -1,4 +1,5 @@
-//! Document 01 implemented once more, from its words alone, to be compared with the proved library.
+//! Document 01, with the requests of document 02 that have landed (Job 1), implemented once more from their words
+//! alone, to be compared with the proved library.
 
 mod bytes;
 pub mod explain;

@@ -97,12 +97,12 @@ fn a_model_with_everything() {
     let entries = [[2, 3, 0, 0], [9, 4, 255, 0], [1, 0, 0, 0], [5, 1, 2, 0], [3, 3, 0, 0], [4, 3, 4, 0]];
     let proposal = model(
         &[(5, [1, 2, 3, 4]), (1 << 31, [0, 0, 0, 65535])],
-        &[[4, 1], [77, 1]],
+        &[[4, 1], [77, 1], [3, 0]],
         &[[0, 1, 1], [1, 7, 0], [0, 1, 0], [0, 1, 1]],
     );
     let expected = "
-Model of 2 nodes, 2 names, 4 edges:
-  node 0: p0 p2; values 1 2 3 4; named n3 (not listed); a1 to 0 1
+Model of 2 nodes, 3 names, 4 edges:
+  node 0: p0 p2; values 1 2 3 4; named n3; a1 to 0 1
   node 1: p31; values 0 0 0 65535; named n4 n77; a7 to 0
 Where the node entries hold:
   e0 n3: node 0
@@ -200,6 +200,40 @@ fn refused_models() {
         finding(&a, &model(&[plain(0)], &[[1, 0]], &[[0, 0, 0], [0, 8, 1]])),
         "Finding: refused 14 1, edge record 1: a field is out of range.\n\
          The record is from 0, axis 8, to 1; the last node is 0, the last axis 7.\n"
+    );
+}
+
+#[test]
+fn a_name_that_is_not_listed() {
+    let removed = model(&[plain(0), plain(1)], &[[5, 1], [3, 0]], &[[0, 2, 1]]);
+    let expected = "
+Model of 2 nodes, 2 names, 1 edge:
+  node 0: values 0 0 0 0; named n3; a2 to 1
+  node 1: values 1 0 0 0; named n5
+
+Finding: refused 27 6, name 6: the pattern uses it and the model doesn't list it.
+Name n6 of the pattern isn't listed: was its meter removed?
+Entry 0 of the pattern has it.
+";
+    let unreached = pattern(&[[2, 6, 0, 0], [2, 5, 0, 0]]);
+    assert_eq!(judgement(&unreached, &removed), expected);
+    assert!(explain(&unreached, &removed).contains("\n  e0 := n6   (the root doesn't reach it)\n"));
+
+    let several = pattern(&[
+        [9, 90, 255, 0],
+        [9, 6, 0, 0],
+        [2, 127, 0, 0],
+        [2, 6, 0, 0],
+        [2, 5, 0, 0],
+        [6, 0, 1, 255],
+        [4, 3, 5, 0],
+    ]);
+    assert_eq!(
+        finding(&several, &removed),
+        "Finding: refused 27 6, name 6: the pattern uses it and the model doesn't list it.\n\
+         Name n6 of the pattern isn't listed: was its meter removed?\n\
+         Entries 1 3 of the pattern have it.\n\
+         Not listed either: n90 n127.\n"
     );
 }
 
@@ -302,11 +336,13 @@ fn next(state: &mut u32) -> usize {
 
 #[test]
 fn the_finding_explained_is_the_finding_judged() {
-    let patterns = [pattern(&ENTRIES_A), pattern(&ENTRIES_D), pattern(&ENTRIES_H)];
-    let proposals = [tableau(0, &STEPS_A), tableau(0, &STEPS_D), model_g()];
+    let names = pattern(&[[2, 6, 0, 0], [9, 7, 255, 0], [6, 0, 1, 255], [3, 2, 0, 0]]);
+    let patterns = [pattern(&ENTRIES_A), pattern(&ENTRIES_D), pattern(&ENTRIES_H), names];
+    let lists = model(&[plain(0), plain(1)], &[[7, 0], [6, 1]], &[[0, 1, 1]]);
+    let proposals = [tableau(0, &STEPS_A), tableau(0, &STEPS_D), model_g(), lists];
     let mut noise = 1;
-    for round in 0..6000 {
-        let mut files = [patterns[round % 3].clone(), proposals[round / 3 % 3].clone()];
+    for round in 0..8000 {
+        let mut files = [patterns[round % 4].clone(), proposals[round / 4 % 4].clone()];
         let damaged = &mut files[round % 2];
         let at = next(&mut noise) % damaged.len();
         match next(&mut noise) % 3 {

@@ -5,13 +5,13 @@ mod common;
 use common::*;
 use oracle::model::{parse, where_holds};
 
-/// Nodes 0 to 3: property 0 at 1 and 31 at 3; name 7 is node 2; axis 1 from 0 to 1 and 2 (one edge twice),
-/// axis 4 from 2 to 3; channel 2 has values 5, 6, 5, 7.
+/// Nodes 0 to 3: property 0 at 1 and 31 at 3; name 7 is node 2, name 9 node 0; axis 1 from 0 to 1 and 2 (one edge
+/// twice), axis 4 from 2 to 3; channel 2 has values 5, 6, 5, 7.
 fn sample() -> Vec<u8> {
     let node = |properties, value| (properties, [0, 0, value, 0]);
     model(
         &[node(0, 5), node(1, 6), node(0, 5), node(1 << 31, 7)],
-        &[[7, 2]],
+        &[[7, 2], [9, 0]],
         &[[0, 1, 1], [2, 4, 3], [0, 1, 2], [0, 1, 1]],
     )
 }
@@ -29,7 +29,7 @@ fn nodes() {
     assert_eq!(holds(&[[1, 0, 0, 0]]), [1]);
     assert_eq!(holds(&[[1, 31, 0, 0]]), [3]);
     assert_eq!(holds(&[[2, 7, 0, 0]]), [2]);
-    assert_eq!(holds(&[[2, 8, 0, 0]]), [0], "a name not listed");
+    assert_eq!(holds(&[[2, 9, 0, 0]]), [0]);
     assert_eq!(holds(&[[1, 0, 0, 0], [3, 0, 0, 0]]), [0, 2, 3]);
     assert_eq!(holds(&[[1, 0, 0, 0], [3, 0, 0, 0], [2, 7, 0, 0], [4, 1, 2, 0]]), [2]);
     assert_eq!(holds(&[[1, 0, 0, 0], [5, 1, 0, 0]]), [0]);
@@ -50,6 +50,13 @@ fn paths() {
     assert_eq!(holds(&[[1, 0, 0, 0], [10, 0, 255, 0], [8, 1, 1, 0], [6, 2, 2, 255]]), none);
     assert_eq!(holds(&[[1, 0, 0, 0], [10, 0, 255, 0], [8, 1, 1, 0], [7, 2, 2, 255]]), [0]);
     assert_eq!(holds(&[step, [8, 4, 255, 0], [11, 0, 1, 0], [7, 2, 2, 255]]), [0, 2], "fork");
+}
+
+#[test]
+fn node_0_stands_in_for_a_name_that_is_not_listed() {
+    let model = parse(&sample()).unwrap();
+    assert_eq!([7, 8, 9].map(|name| model.lists(name)), [true, false, true]);
+    assert_eq!([7, 8, 9].map(|name| model.node_of(name)), [2, 0, 0]);
 }
 
 #[test]

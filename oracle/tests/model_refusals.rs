@@ -1,4 +1,4 @@
-//! Judging a model: refusals 9 to 14, the limits, and the working area.
+//! Judging a model: refusals 9 to 14 and 27, the limits, and the working area.
 
 mod common;
 
@@ -64,6 +64,97 @@ fn records() {
     assert_eq!(with(&[[0, 0], [0, 0]], &[[9, 9, 9]]), "refused 13 1", "all names before any edge");
 }
 
+/// Property 0, beside names 90, 4 and 40 and jumps to 40 and 127, none of which the root reaches.
+fn names_unreached() -> Vec<u8> {
+    pattern(&[
+        [2, 90, 0, 0],
+        [2, 4, 0, 0],
+        [9, 40, 255, 0],
+        [9, 127, 255, 0],
+        [2, 40, 0, 0],
+        [9, 40, 3, 0],
+        [1, 0, 0, 0],
+    ])
+}
+
+/// A model of two nodes that lists the names, each as node 1.
+fn listing(names: &[u8]) -> Vec<u8> {
+    let names: Vec<[u8; 2]> = names.iter().map(|&name| [name, 1]).collect();
+    model(&[plain(1), plain(2)], &names, &[[0, 7, 1]])
+}
+
+#[test]
+fn every_name_of_the_pattern_is_listed() {
+    let line = |names: &[u8]| model_line(&names_unreached(), &listing(names));
+    assert_eq!(line(&[]), "refused 27 4", "the lowest, though not of the first entry");
+    assert_eq!(line(&[40]), "refused 27 4");
+    assert_eq!(line(&[4]), "refused 27 40");
+    assert_eq!(line(&[127, 4, 40]), "refused 27 90");
+    assert_eq!(line(&[90, 4, 40]), "refused 27 127", "of a jump");
+    assert_eq!(line(&[90, 127, 40]), "refused 27 4");
+    assert_eq!(line(&[0, 1, 2, 3, 5, 41, 90, 126, 127]), "refused 27 4", "other names don't help");
+    assert_eq!(line(&[90, 4, 127, 40]), "unmet");
+    assert_eq!(line(&[126, 90, 4, 0, 127, 40]), "unmet");
+}
+
+/// An entry that has the name: even ones are named, odd ones jumped to.
+fn user(name: u8) -> [u8; 4] {
+    if name.is_multiple_of(2) { [2, name, 0, 0] } else { [9, name, 255, 0] }
+}
+
+#[test]
+fn any_name_may_be_missing() {
+    let users: Vec<[u8; 4]> = (0..128).map(user).collect();
+    let every_name = pattern(&[&users[..], &[[3, 126, 0, 0]]].concat());
+    let every: Vec<u8> = (0..128).collect();
+    assert_eq!(model_line(&every_name, &listing(&every)), "met 0 1", "not the node with name 126");
+    for missing in 0..128 {
+        let but_one: Vec<u8> = (0..128).rev().filter(|&name| name != missing).collect();
+        let expected = format!("refused 27 {missing}");
+        assert_eq!(model_line(&every_name, &listing(&but_one)), expected);
+        let one_name = pattern(&[user(missing), [1, 0, 0, 0]]);
+        assert_eq!(model_line(&one_name, &listing(&but_one)), expected);
+        assert_eq!(model_line(&one_name, &listing(&[missing])), "unmet");
+    }
+}
+
+#[test]
+fn a_pattern_without_names_needs_none() {
+    assert_eq!(model_line(&anywhere(), &listing(&[])), "met 0 2");
+    assert_eq!(model_line(&anywhere(), &listing(&[3])), "met 0 2");
+}
+
+/// Name 5 and a differ from it, which a tableau closes.
+#[test]
+fn a_closed_tableau_changes_nothing() {
+    let never = pattern(&[[2, 5, 0, 0], [9, 5, 255, 0], [7, 3, 255, 1], [4, 0, 2, 0]]);
+    let steps = [
+        (2, 0, 0, 0),
+        (4, 1, 0, 0),
+        (17, 3, 0, 0),
+        (18, 4, 0, 3),
+        (7, 2, 0, 0),
+        (8, 6, 0, 0),
+        (9, 7, 0, 0),
+        (22, 5, 8, 0),
+    ];
+    assert_eq!(tableau_line(&never, &tableau(0, &steps)), "closed 8 1 0 9");
+    assert_eq!(model_line(&never, &listing(&[4])), "refused 27 5");
+    assert_eq!(model_line(&never, &listing(&[5])), "unmet");
+}
+
+#[test]
+fn all_edges_before_any_name_of_the_pattern() {
+    let with = |names: &[[u8; 2]], edges: &[[u8; 3]]| {
+        model_line(&names_unreached(), &model(&[plain(1), plain(2)], names, edges))
+    };
+    assert_eq!(with(&[[40, 0]], &[[0, 0, 1], [1, 0, 0]]), "refused 27 4");
+    assert_eq!(with(&[[40, 0]], &[[0, 0, 1], [1, 0, 2]]), "refused 14 1", "the last edge");
+    assert_eq!(with(&[[40, 0]], &[[0, 8, 1], [1, 0, 0]]), "refused 14 0");
+    assert_eq!(with(&[[40, 0], [40, 0]], &[]), "refused 13 1");
+    assert_eq!(with(&[[40, 2]], &[]), "refused 13 0");
+}
+
 #[test]
 fn order_and_area() {
     let good = small();
@@ -75,6 +166,10 @@ fn order_and_area() {
     check(&anywhere(), &good, 2039, "refused 9 0", 0);
     check(&anywhere(), &[], 2040, "refused 10 0", 0);
     check(&anywhere(), &replaced(3, 2), 3000, "refused 11 0", 0);
+    check(&names_unreached(), &listing(&[4]), 2039, "refused 9 0", 0);
+    check(&names_unreached(), &listing(&[4]), 2040, "refused 27 40", 0);
+    check(&names_unreached(), &listing(&[4]), 9000, "refused 27 40", 0);
+    check(&names_unreached(), &listing(&[4, 40, 90, 127]), 2041, "unmet", 2040);
     check(&anywhere(), &good, 2040, "met 0 2", 2040);
     check(&anywhere(), &good, 2041, "met 0 2", 2040);
     check(&pattern(&[[7, 0, 255, 255]]), &good, 9000, "unmet", 2040);

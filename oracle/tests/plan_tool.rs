@@ -50,6 +50,20 @@ fn writes_a_model() {
     assert!(model_line(&common::pattern(&ENTRIES_G), &model).starts_with("met "));
 }
 
+/// The root reaches neither name, so that no line of a tableau has them: they are listed as node 0.
+#[test]
+fn lists_the_names_of_the_pattern() {
+    let directory = Directory::new("names");
+    let bytes = common::pattern(&[[2, 6, 0, 0], [9, 127, 255, 0], [1, 0, 0, 0]]);
+    let pattern = directory.file("pattern.bin", &bytes);
+    let proposal = directory.0.join("proposal.bin");
+    let output = run(&[], &[&pattern, &proposal]);
+    assert_eq!(String::from_utf8_lossy(&output.stdout), "model, 1 node\n");
+    let model = fs::read(&proposal).expect("a proposal");
+    assert!(model.ends_with(&[6, 0, 127, 0]), "{model:?}");
+    assert_eq!(model_line(&bytes, &model), "met 0 1");
+}
+
 #[test]
 fn bad_arguments_give_the_usage() {
     let file = Path::new("pattern.bin");

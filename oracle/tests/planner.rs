@@ -156,6 +156,26 @@ fn budget_is_kept() {
     assert_eq!(plan(&pattern, Effort { budget: 1, seed: 0 }), None);
 }
 
+/// Names that the root doesn't reach, or that any node may have, are listed too: without them a model is refused.
+#[test]
+fn every_name_of_the_pattern_is_in_a_planned_model() {
+    let mut b = Builder::default();
+    b.name(77);
+    b.jump(127, END);
+    let (named, other) = (b.name(5), b.name(0));
+    let (here, elsewhere) = (b.not(named), b.jump(9, END));
+    let equal = b.same(2, END, elsewhere);
+    let either = b.both(here, other);
+    let denied = b.not(either);
+    let root = b.both(denied, equal);
+    let pattern = b.finish(root).expect("few entries");
+    check_plans(&pattern, true);
+    for seed in 0..SEEDS {
+        let model = meet(&pattern, effort(seed)).expect("a model");
+        assert_eq!(model.names.iter().map(|record| record.0).collect::<Vec<u8>>(), [0, 5, 9, 77, 127]);
+    }
+}
+
 /// 128 names are used, so that no name is left to start with; the model is guessed.
 #[test]
 fn pattern_with_all_names_is_met() {

@@ -57,5 +57,7 @@ fn i_differs_from_itself_nowhere() {
 #[test]
 fn j_names_end_at_127() {
     assert_eq!(read_line(&pattern(&[[2, 128, 0, 0]])), "refused 5 0");
-    assert_eq!(read_line(&pattern(&[[2, 127, 0, 0]])), "read 1");
+    let name_127 = pattern(&[[2, 127, 0, 0]]);
+    assert_eq!(read_line(&name_127), "read 1");
+    assert_eq!(model_line(&name_127, &model(&[plain(0)], &[[127, 0]], &[])), "met 0 1");
 }

@@ -4,8 +4,10 @@
 mod faults;
 
 use faults::model::{MISREADINGS, misread};
+use faults::names::{MISTAKES, mistaken, names_before_edges};
 use faults::tableau::{self, Fault, NONE};
 use oracle::finding::Finding;
+use oracle::model::check_names;
 use trial::differential::compare::{Comparer, What};
 use trial::differential::guarded::Against;
 use trial::differential::implementation::{Implementation, Lent, ORACLE, UNIT, run_oracle};
@@ -35,6 +37,13 @@ fn seen(fault: &(dyn Fn(Operation, Lent) -> Finding + Sync)) -> What {
 fn is_seen(fault: Fault) {
     let what = seen(&|operation, lent| fault.run(operation, lent));
     assert!(matches!(what, What::Finding { .. }), "{what:?}");
+}
+
+/// Asserts that a fault in judging a model, one of several, is seen as another finding.
+fn is_seen_among(words: &str, fault: &(dyn Fn(Operation, Lent) -> Finding + Sync)) {
+    let Err(failure) = planted(fault) else { panic!("not seen: {words}") };
+    let what = failure.difference.what;
+    assert!(matches!(what, What::Finding { .. }), "{words}: {what:?}");
 }
 
 fn tally(run: Run) -> Tally {
@@ -89,6 +98,8 @@ fn everything_occurs_and_what_never_does_is_named() {
     assert_eq!(missing(|tally| tally.met = 0), ["finding met"]);
     assert_eq!(missing(|tally| tally.refused[0][8].times = 0), ["refusal 8 of reading a pattern"]);
     assert_eq!(missing(|tally| tally.refused[1][14].times = 0), ["refusal 14 of judging a model"]);
+    assert_eq!(missing(|tally| tally.refused[1][27].times = 0), ["refusal 27 of judging a model"]);
+    assert_eq!(missing(|tally| assert!(tally.unlisted.remove(&77))), ["name 77 refused 27"]);
     assert_eq!(missing(|tally| tally.refused[2][24].times = 0), ["refusal 24 of judging a tableau"]);
     assert_eq!(missing(|tally| tally.rules[20].closed = 0), ["rule 20 in a closed tableau"]);
     assert_eq!(missing(|tally| tally.rules[3].refused[1] = 0), ["a step with rule 3 refused 21"]);
@@ -97,6 +108,10 @@ fn everything_occurs_and_what_never_does_is_named() {
     assert_eq!(
         missing(|tally| tally.limits.retain(|limit, _| *limit != "64 nodes judged")),
         ["limit: 64 nodes judged"]
+    );
+    assert_eq!(
+        missing(|tally| assert!(tally.limits.remove("met, names used").is_some())),
+        ["names: met, names used"]
     );
     assert_eq!(missing(|tally| tally.kinds[Kind::Unrelated as usize] = 0).len(), 1);
     assert!(Tally::default().missing().len() > 100);
@@ -196,15 +211,40 @@ fn a_finding_against_demand_3_is_seen_without_any_other_implementation() {
 #[test]
 fn misreadings_of_a_model_are_seen() {
     for (words, change) in MISREADINGS {
-        let found = planted(&|operation, lent| misread(change, operation, lent));
-        let Err(failure) = found else { panic!("not seen: {words}") };
-        let what = failure.difference.what;
-        assert!(matches!(what, What::Finding { .. }), "{words}: {what:?}");
+        is_seen_among(words, &|operation, lent| misread(change, operation, lent));
     }
 }
 
 #[test]
-fn the_planted_judge_is_right_without_a_fault() {
+fn mistakes_about_the_names_to_be_listed_are_seen() {
+    for (words, place) in MISTAKES {
+        is_seen_among(words, &|operation, lent| mistaken(place, operation, lent));
+    }
+}
+
+#[test]
+fn names_looked_at_before_edges_are_seen() {
+    let what = seen(&names_before_edges);
+    let expected = |finding: Finding| finding.to_string().starts_with("refused 14 ");
+    assert!(matches!(what, What::Finding { expected: finding, .. } if expected(finding)), "{what:?}");
+}
+
+#[test]
+fn an_area_cleared_by_refusal_27_is_seen() {
+    let what = seen(&|operation, Lent { pattern, proposal, area }| {
+        let finding = run_oracle(operation, Lent { pattern, proposal, area: &mut *area });
+        if finding.to_string().starts_with("refused 27 ") {
+            area[..2040].fill(0);
+        }
+        finding
+    });
+    assert!(matches!(what, What::Area { at: 0, found: 0, .. }), "{what:?}");
+}
+
+#[test]
+fn the_planted_judges_are_right_without_a_fault() {
+    let lowest = |pattern: &_, model: &_| check_names(pattern, model).err().map(|refusal| refusal.place);
+    assert!(planted(&|operation, lent| mistaken(lowest, operation, lent)).is_ok());
     assert!(planted(&|operation, lent| NONE.run(operation, lent)).is_ok());
 }
 

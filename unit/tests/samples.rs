@@ -34,6 +34,26 @@ fn a_pattern_is_read() {
     assert_eq!(unit::read(b""), Finding::Refused { number: 1, place: 0 });
 }
 
+/// The refusal's place is the name, not a record or an entry, and the area stays as it was.
+#[test]
+fn a_name_of_the_pattern_that_is_not_listed_is_refused() {
+    let name_jump_property = [[2, 9, 0, 0], [9, 127, 255, 0], [1, 0, 0, 0]];
+    let pattern = [b"PAT\x01\x00\x03", name_jump_property.as_flattened()].concat();
+    let model = |names: &[[u8; 2]]| {
+        let header = [b'D', b'A', b'T', 1, 0, 1, names.len() as u8, 0, 0];
+        [&header[..], &[1, 0, 0, 0, 0, 0, 0, 0, 0, 0, 0, 0], names.as_flattened()].concat()
+    };
+    let mut area = [7; MODEL_AREA];
+    for (names, missing) in [(&[][..], 9), (&[[127, 0]], 9), (&[[9, 0]], 127), (&[[9, 0], [126, 0]], 127)] {
+        let finding = unit::judge_model(&pattern, &model(names), &mut area);
+        assert_eq!(finding, Finding::Refused { number: 27, place: missing });
+        assert_eq!(area, [7; MODEL_AREA]);
+    }
+    let finding = unit::judge_model(&pattern, &model(&[[127, 0], [9, 0]]), &mut area);
+    assert_eq!(finding, Finding::Met { lowest: 0, number: 1 });
+    assert_eq!(area, [0; MODEL_AREA]);
+}
+
 #[test]
 fn a_short_area_is_refused_and_kept() {
     let reading_h = Path::new(env!("CARGO_MANIFEST_DIR")).join("../crates/readings/data/reading_h");

@@ -107,7 +107,7 @@ impl fmt::Display for Formula<'_> {
     fn fmt(&self, f: &mut fmt::Formatter<'_>) -> fmt::Result {
         let entries = count(self.texts.len(), "entry", "entries");
         writeln!(f, "Pattern of {entries}, the root is e{}:", self.root())?;
-        let reached = reached(self.pattern);
+        let reached = self.pattern.reached();
         for (number, text) in self.texts.iter().enumerate().filter(|(number, _)| self.labelled[*number]) {
             let note = if reached[number] { "" } else { "   (the root doesn't reach it)" };
             writeln!(f, "  e{number} := {text}{note}")?;
@@ -123,16 +123,4 @@ fn use_counts(pattern: &Pattern) -> Vec<usize> {
         counts[referred] += 1;
     }
     counts
-}
-
-/// Which entries the root reaches. References go to earlier entries, so one sweep backwards finds all.
-fn reached(pattern: &Pattern) -> Vec<bool> {
-    let mut reached = vec![false; pattern.entries.len()];
-    reached[pattern.entries.len() - 1] = true;
-    for number in (0..pattern.entries.len()).rev() {
-        if reached[number] {
-            pattern.entries[number].references().for_each(|referred| reached[referred] = true);
-        }
-    }
-    reached
 }

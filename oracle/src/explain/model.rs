@@ -4,7 +4,7 @@ use super::formula::Formula;
 use super::refusal;
 use super::wording::{count, counts, joined};
 use crate::finding::Finding;
-use crate::model::{Model, finding, parse, where_holds};
+use crate::model::{Model, check_names, finding, parse, where_holds};
 use crate::pattern::{MAX_AXIS, MAX_NAME, MAX_PROPERTY, Pattern};
 use std::collections::BTreeSet;
 
@@ -13,15 +13,18 @@ pub fn explain(pattern: &Pattern, formula: &Formula, bytes: &[u8]) -> String {
         Ok(model) => model,
         Err(refused) => return refusal::of_model(bytes, refused),
     };
+    if let Err(refused) = check_names(pattern, &model) {
+        return format!("{}\n{}", nodes(&model), refusal::of_names(pattern, &model, refused));
+    }
     let conclusion = conclusion(&finding(pattern, &model));
-    format!("{}{}\n{conclusion}", nodes(pattern, &model), holding(pattern, formula, &model))
+    format!("{}{}\n{conclusion}", nodes(&model), holding(pattern, formula, &model))
 }
 
-fn nodes(pattern: &Pattern, model: &Model) -> String {
+fn nodes(model: &Model) -> String {
     let counts = counts(model.nodes.len(), model.names.len(), model.edges.len());
     let mut text = format!("Model of {counts}:\n");
     for number in 0..model.nodes.len() {
-        let parts = [properties(model, number), values(model, number), names_of(pattern, model, number)];
+        let parts = [properties(model, number), values(model, number), names_of(model, number)];
         let parts: Vec<String> = parts.into_iter().chain([edges(model, number)]).flatten().collect();
         text += &format!("  node {number}: {}\n", parts.join("; "));
     }
@@ -38,13 +41,11 @@ fn values(model: &Model, node: usize) -> Option<String> {
     Some(format!("values {}", joined(model.nodes[node].values.iter().map(u16::to_string))))
 }
 
-/// The node's names: those of its records, and at node 0 those that the pattern uses but no record has.
-fn names_of(pattern: &Pattern, model: &Model, node: usize) -> Option<String> {
-    let listed = |name: u8| model.names.iter().any(|record| record.0 == name);
-    let names = (0..=MAX_NAME).filter(|&name| model.node_of(name) == node);
-    let shown = names.filter(|&name| listed(name) || pattern.uses(name));
-    let text =
-        joined(shown.map(|name| format!("n{name}{}", if listed(name) { "" } else { " (not listed)" })));
+/// The names of the node's records. Others aren't shown: node 0 stands in only for names that the pattern doesn't
+/// use.
+fn names_of(model: &Model, node: usize) -> Option<String> {
+    let names = (0..=MAX_NAME).filter(|&name| model.lists(name) && model.node_of(name) == node);
+    let text = joined(names.map(|name| format!("n{name}")));
     (!text.is_empty()).then(|| format!("named {text}"))
 }
 

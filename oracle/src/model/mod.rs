@@ -30,7 +30,7 @@ pub struct Node {
     pub values: [u16; 4],
 }
 
-/// Judging a model as document 01 states it, with what it does to the working area.
+/// Judging a model as document 01 and Job 1 state it, with what it does to the working area.
 pub fn judge(pattern: &[u8], model: &[u8], area: &mut [u8]) -> Finding {
     match admit(pattern, model, area.len()) {
         Ok((pattern, model)) => {
@@ -41,16 +41,27 @@ pub fn judge(pattern: &[u8], model: &[u8], area: &mut [u8]) -> Finding {
     }
 }
 
-/// Refusals 1 to 14 in their order: the pattern, the area, the model.
+/// Refusals 1 to 14 and 27 in their order: the pattern, the area, the model, the pattern's names in it.
 fn admit(pattern: &[u8], model: &[u8], area: usize) -> Result<(Pattern, Model), Refusal> {
     let pattern = pattern::parse(pattern)?;
     if area < AREA {
         return Err(Refusal { number: 9, place: 0 });
     }
-    Ok((pattern, parse(model)?))
+    let model = parse(model)?;
+    check_names(&pattern, &model)?;
+    Ok((pattern, model))
 }
 
-/// Met or unmet: the lowest node where the root holds, and the number of such nodes.
+/// Job 1: "27, after every 14 check, when the model doesn't list a name of the pattern, place the lowest such name."
+pub fn check_names(pattern: &Pattern, model: &Model) -> Result<(), Refusal> {
+    match pattern.names().into_iter().find(|&name| !model.lists(name)) {
+        Some(name) => Err(Refusal { number: 27, place: name.into() }),
+        None => Ok(()),
+    }
+}
+
+/// Met or unmet, of a model that lists the pattern's names: the lowest node where the root holds, and the number
+/// of such nodes.
 pub fn finding(pattern: &Pattern, model: &Model) -> Finding {
     let root = *node_sets(pattern, model).last().expect("a pattern has a root");
     if root == 0 {
@@ -60,7 +71,12 @@ pub fn finding(pattern: &Pattern, model: &Model) -> Finding {
 }
 
 impl Model {
-    /// The node of a name: that of its record, or node 0.
+    /// Whether a record has the name.
+    pub fn lists(&self, name: u8) -> bool {
+        self.names.iter().any(|record| record.0 == name)
+    }
+
+    /// The node of a name: that of its record; "node 0 stands in only for names that the pattern doesn't use".
     pub fn node_of(&self, name: u8) -> usize {
         self.names.iter().find(|record| record.0 == name).map_or(0, |record| record.1 as usize)
     }

@@ -6,6 +6,7 @@ pub use file::parse;
 pub(crate) use file::{ENTRY_BYTES, HEADER_BYTES};
 
 use crate::finding::Finding;
+use std::collections::BTreeSet;
 
 /// The largest property, name, axis and channel.
 pub const MAX_PROPERTY: u8 = 31;
@@ -93,5 +94,22 @@ impl Pattern {
     /// Whether an entry of kind 2 or 9 has the name, reached from the root or not.
     pub fn uses(&self, name: u8) -> bool {
         self.entries.iter().any(|entry| entry.name() == Some(name))
+    }
+
+    /// Which entries the root reaches. References go to earlier entries, so one sweep backwards finds all.
+    pub fn reached(&self) -> Vec<bool> {
+        let mut reached = vec![false; self.entries.len()];
+        reached[self.entries.len() - 1] = true;
+        for number in (0..self.entries.len()).rev() {
+            if reached[number] {
+                self.entries[number].references().for_each(|referred| reached[referred] = true);
+            }
+        }
+        reached
+    }
+
+    /// The names that it uses.
+    pub fn names(&self) -> BTreeSet<u8> {
+        self.entries.iter().filter_map(Entry::name).collect()
     }
 }

@@ -3,7 +3,7 @@
 use super::Effort;
 use crate::finding::Finding;
 use crate::model::{self, Model, Node};
-use crate::pattern::{Entry, MAX_AXIS, MAX_NAME, Pattern};
+use crate::pattern::{Entry, MAX_AXIS, Pattern};
 use crate::random::Random;
 
 const MOST_NODES: usize = 6;
@@ -15,7 +15,7 @@ pub fn guess(pattern: &Pattern, effort: Effort) -> Option<Model> {
     (0..effort.budget).map(|_| any_model(pattern, &axes, &mut random)).find(|model| meets(pattern, model))
 }
 
-/// Whether judging finds the pattern met.
+/// Whether judging finds the pattern met by a model that lists its names.
 pub fn meets(pattern: &Pattern, model: &Model) -> bool {
     matches!(model::finding(pattern, model), Finding::Met { .. })
 }
@@ -25,7 +25,7 @@ fn leads_by(pattern: &Pattern, axis: u8) -> bool {
     pattern.entries.iter().any(leads)
 }
 
-/// Few nodes and few different values, so that much is the same; edges on the pattern's axes only.
+/// Few nodes and few different values, so that much is the same; just the pattern's names; edges on its axes only.
 fn any_model(pattern: &Pattern, axes: &[u8], random: &mut Random) -> Model {
     let count = 1 + random.below(MOST_NODES);
     let mut node = || Node {
@@ -33,8 +33,7 @@ fn any_model(pattern: &Pattern, axes: &[u8], random: &mut Random) -> Model {
         values: std::array::from_fn(|_| random.below(count) as u16),
     };
     let nodes: Vec<Node> = (0..count).map(|_| node()).collect();
-    let names = (0..=MAX_NAME).filter(|&name| pattern.uses(name));
-    let names = names.map(|name| (name, random.below(count) as u8)).collect();
+    let names = pattern.names().into_iter().map(|name| (name, random.below(count) as u8)).collect();
     let sparseness = 1 + random.below(4);
     let mut edges = Vec::new();
     for &axis in axes {

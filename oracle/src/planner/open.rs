@@ -3,12 +3,13 @@
 use super::branch::Branch;
 use super::shape::names;
 use crate::model::{MAX_EDGES, MAX_NODES, Model, Node};
-use crate::pattern::{Entry, MAX_NAME};
+use crate::pattern::Entry;
 use crate::tableau::line::Line;
 
 impl Branch<'_> {
-    /// The kept names as nodes, with the edges, properties and values that the lines tell. `None` if a model
-    /// file has no room for it.
+    /// The kept names as nodes, with the edges, properties and values that the lines tell. Every name of the
+    /// pattern is listed: one that no line has may be any node, and is node 0. `None` if a model file has no room
+    /// for it.
     pub fn model(&self) -> Option<Model> {
         let mut kept: Vec<u8> = Vec::new();
         for name in self.lines.iter().flat_map(|&line| names(line)).flatten() {
@@ -18,10 +19,10 @@ impl Branch<'_> {
             }
         }
         let node_of = |name: u8| kept.iter().position(|&other| other == self.aliases.kept(name));
-        let used = (0..=MAX_NAME).filter(|&name| self.setting.pattern.uses(name));
+        let used = self.setting.pattern.names().into_iter();
         let model = Model {
             nodes: kept.iter().map(|&name| self.node(name)).collect(),
-            names: used.filter_map(|name| Some((name, node_of(name)? as u8))).collect(),
+            names: used.map(|name| (name, node_of(name).unwrap_or(0) as u8)).collect(),
             edges: self.edges(node_of),
         };
         (model.nodes.len() <= MAX_NODES && model.edges.len() <= MAX_EDGES).then_some(model)

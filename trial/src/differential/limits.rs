@@ -81,12 +81,12 @@ fn brings(step: &[u8], name: u8) -> bool {
 }
 
 impl<'a> Judged<'a> {
-    fn refused(&self, number: u16) -> bool {
+    pub(super) fn refused(&self, number: u16) -> bool {
         self.place(number).is_some()
     }
 
     /// The place of a refusal with this number.
-    fn place(&self, wanted: u16) -> Option<usize> {
+    pub(super) fn place(&self, wanted: u16) -> Option<usize> {
         match self.finding {
             Finding::Refused(refusal) if refusal.number == wanted => Some(refusal.place as usize),
             _ => None,
@@ -94,7 +94,7 @@ impl<'a> Judged<'a> {
     }
 
     /// Whether a model was found met or unmet.
-    fn found(&self) -> bool {
+    pub(super) fn found(&self) -> bool {
         matches!(self.finding, Finding::Met { .. } | Finding::Unmet)
     }
 
@@ -138,7 +138,7 @@ impl<'a> Judged<'a> {
         self.input.proposal[5]
     }
 
-    fn names(&self) -> std::slice::ChunksExact<'a, u8> {
+    pub(super) fn names(&self) -> std::slice::ChunksExact<'a, u8> {
         let first = 9 + 12 * self.nodes() as usize;
         self.input.proposal[first..][..2 * self.input.proposal[6] as usize].chunks_exact(2)
     }
@@ -152,7 +152,7 @@ impl<'a> Judged<'a> {
         self.input.proposal[HEADER_BYTES..].chunks_exact(STEP_BYTES)
     }
 
-    fn name_refused(&self) -> Option<&'a [u8]> {
+    pub(super) fn name_refused(&self) -> Option<&'a [u8]> {
         self.place(13).and_then(|place| self.names().nth(place))
     }
 

@@ -1,8 +1,10 @@
-//! What a run must see: every finding, refusal, rule, limit and kind of input.
+//! What a run must see: every finding, refusal, rule, limit and kind of input, and each name missing.
 
 use super::limits::LIMITS;
+use super::names::NAMES;
 use super::tally::Tally;
 use crate::generate::input::{Kind, Operation};
+use oracle::pattern::MAX_NAME;
 use std::iter::Chain;
 use std::ops::RangeInclusive;
 
@@ -23,17 +25,11 @@ impl Tally {
                 (times, format!("refusal {number} of {}", words(operation)))
             }));
         }
-        for (number, rule) in self.rules.iter().enumerate().skip(1) {
-            seen.push((rule.closed, format!("rule {number} in a closed tableau")));
-            seen.push((rule.refused[0], format!("a step with rule {number} refused 20")));
-            seen.push((rule.refused[1], format!("a step with rule {number} refused 21")));
-        }
-        for number in [5, 14] {
-            let unfresh = self.rules[number].refused[2];
-            seen.push((unfresh, format!("a step with rule {number} refused 22")));
-        }
-        for (limit, _) in LIMITS {
-            seen.push((self.shown(limit), format!("limit: {limit}")));
+        self.add_rules(&mut seen);
+        seen.extend(LIMITS.map(|(limit, _)| (self.shown(limit), format!("limit: {limit}"))));
+        seen.extend(NAMES.map(|(names, _)| (self.shown(names), format!("names: {names}"))));
+        for name in 0..=MAX_NAME.into() {
+            seen.push((self.unlisted.contains(&name).into(), format!("name {name} refused 27")));
         }
         for operation in Operation::ALL {
             for (length, times) in self.short[operation as usize].iter().enumerate() {
@@ -45,13 +41,26 @@ impl Tally {
         }
         seen.into_iter().filter(|(times, _)| *times == 0).map(|(_, what)| what).collect()
     }
+
+    /// Adds what must be seen of the rules.
+    fn add_rules(&self, seen: &mut Vec<(u64, String)>) {
+        for (number, rule) in self.rules.iter().enumerate().skip(1) {
+            seen.push((rule.closed, format!("rule {number} in a closed tableau")));
+            seen.push((rule.refused[0], format!("a step with rule {number} refused 20")));
+            seen.push((rule.refused[1], format!("a step with rule {number} refused 21")));
+        }
+        for number in [5, 14] {
+            let unfresh = self.rules[number].refused[2];
+            seen.push((unfresh, format!("a step with rule {number} refused 22")));
+        }
+    }
 }
 
-/// The refusals that document 01 lists for the operation.
+/// The refusals that documents 01 and 02 list for the operation.
 pub fn refusals(operation: Operation) -> Chain<RangeInclusive<usize>, RangeInclusive<usize>> {
     match operation {
         Operation::Reading => (1..=7).chain(8..=8),
-        Operation::Model => (1..=9).chain(10..=14),
+        Operation::Model => (1..=14).chain(27..=27),
         Operation::Tableau => (1..=9).chain(15..=26),
     }
 }

@@ -3,7 +3,8 @@
 //!
 //! `run` takes the inputs in turn; `compare` runs each by every `implementation` in `guarded` memory, and
 //! `fault` names it if it is left; `tally` counts what occurred (`limits` says which limits an input
-//! shows), `missing` what never did, and `table` prints it; `report` shows one input in full.
+//! shows, `names` what it shows of the pattern's names), `missing` what never did, and `table` prints it;
+//! `report` shows one input in full.
 
 pub mod compare;
 pub mod fault;
@@ -11,6 +12,7 @@ pub mod guarded;
 pub mod implementation;
 mod limits;
 mod missing;
+mod names;
 pub mod report;
 pub mod run;
 mod table;

@@ -1,7 +1,8 @@
 //! The table that a run prints of its tally.
 
-use super::limits::LIMITS;
+use super::limits::{LIMITS, Limit};
 use super::missing::{refusals, words};
+use super::names::NAMES;
 use super::tally::Tally;
 use crate::generate::input::{Kind, Operation};
 use std::fmt;
@@ -25,10 +26,9 @@ impl fmt::Display for Tally {
             let [on, fit, fresh] = rule.refused;
             writeln!(f, "{:>12}    {number:>2} {on:>12} {fit:>12} {fresh:>12}", rule.closed)?;
         }
-        writeln!(f, "limits")?;
-        for (limit, _) in LIMITS {
-            writeln!(f, "{:>12}    {limit}", self.shown(limit))?;
-        }
+        self.write_shown(f, "limits", &LIMITS)?;
+        self.write_shown(f, "names that the pattern uses and those that the model lists", &NAMES)?;
+        writeln!(f, "{:>12}    of the 128 names refused 27", self.unlisted.len())?;
         writeln!(f, "files of 0 to 10 bytes")?;
         for operation in Operation::ALL {
             writeln!(
@@ -54,6 +54,14 @@ impl Tally {
         for number in refusals(operation) {
             let refused = self.refused[operation as usize][number];
             writeln!(f, "{:>12}    {number:>2} {:>12}", refused.times, refused.deepest)?;
+        }
+        Ok(())
+    }
+
+    fn write_shown(&self, f: &mut fmt::Formatter<'_>, title: &str, limits: &[Limit]) -> fmt::Result {
+        writeln!(f, "{title}")?;
+        for (limit, _) in limits {
+            writeln!(f, "{:>12}    {limit}", self.shown(limit))?;
         }
         Ok(())
     }

@@ -1,14 +1,15 @@
 //! What occurred in a run: findings, refusals, rules and kinds of input.
 
 use super::limits::{Judged, LIMITS};
+use super::names::NAMES;
 use crate::generate::input::{Input, Kind, Never, Operation};
 use oracle::finding::{Finding, Refusal};
 use oracle::tableau::{HEADER_BYTES, STEP_BYTES};
-use std::collections::{BTreeMap, HashSet};
+use std::collections::{BTreeMap, BTreeSet, HashSet};
 use std::hash::{DefaultHasher, Hash, Hasher};
 
 /// The largest refusal number and the largest rule number.
-const REFUSALS: usize = 26;
+const REFUSALS: usize = 27;
 const RULES: usize = 23;
 
 /// How many lengths of short files are counted: 0 to 10 bytes.
@@ -41,8 +42,10 @@ pub struct Tally {
     /// Refusals by operation and number.
     pub refused: [[Refused; REFUSALS + 1]; Operation::ALL.len()],
     pub rules: [RuleUse; RULES + 1],
-    /// Inputs that show a limit, by its words; none for a limit that no input shows.
+    /// Inputs that show a limit or something of names, by its words; none for what no input shows.
     pub limits: BTreeMap<&'static str, u64>,
+    /// The names that refusal 27 gave as its place.
+    pub unlisted: BTreeSet<u16>,
     /// Files of 0 to 10 bytes: patterns, models and tableaux.
     pub short: [[u64; SHORT]; Operation::ALL.len()],
     /// Models judged unmet of a pattern with a closed tableau.
@@ -59,7 +62,7 @@ impl Tally {
         self.inputs += 1;
         self.kinds[input.kind as usize] += 1;
         let judged = Judged { input, finding };
-        for (limit, _) in LIMITS.iter().filter(|(_, shows)| shows(&judged)) {
+        for (limit, _) in LIMITS.iter().chain(&NAMES).filter(|(_, shows)| shows(&judged)) {
             *self.limits.entry(limit).or_default() += 1;
         }
         self.count_short(Operation::Reading, &input.pattern);
@@ -91,9 +94,15 @@ impl Tally {
         let refused = &mut self.refused[input.operation as usize][refusal.number as usize];
         refused.times += 1;
         refused.deepest = refused.deepest.max(refusal.place);
-        if let 20..=22 = refusal.number {
-            let rule = input.proposal[HEADER_BYTES + STEP_BYTES * refusal.place as usize];
-            self.rules[rule as usize].refused[refusal.number as usize - 20] += 1;
+        match refusal.number {
+            20..=22 => {
+                let rule = input.proposal[HEADER_BYTES + STEP_BYTES * refusal.place as usize];
+                self.rules[rule as usize].refused[refusal.number as usize - 20] += 1;
+            }
+            27 => {
+                self.unlisted.insert(refusal.place);
+            }
+            _ => {}
         }
     }
 
@@ -140,10 +149,11 @@ impl Tally {
         for (limit, times) in &other.limits {
             *self.limits.entry(limit).or_default() += times;
         }
+        self.unlisted.extend(&other.unlisted);
         self.distinct.extend(&other.distinct);
     }
 
-    /// How many inputs show the limit.
+    /// How many inputs show the limit, or what it is of names.
     pub fn shown(&self, limit: &str) -> u64 {
         self.limits.get(limit).copied().unwrap_or_default()
     }

@@ -1,5 +1,5 @@
-//! Document 01 implemented for speed, to measure the proved library against: no allocation, no code shared
-//! with the other implementations but the type of a finding.
+//! Document 01, with the requests of document 02 that have landed, implemented for speed, to measure the proved
+//! library against: no allocation, no code shared with the other implementations but the type of a finding.
 //!
 //! - `pattern` reads a pattern in one pass over its entries;
 //! - `model` reads a model file, `reach` finds what the root needs, `evaluate` works upward through those

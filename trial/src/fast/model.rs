@@ -1,4 +1,4 @@
-//! Judging a model: refusals 9 to 14, then where the root holds.
+//! Judging a model: refusals 9 to 14 and 27, then where the root holds.
 
 use super::evaluate::{Holds, root_nodes};
 use super::{body, pattern, refused};
@@ -8,21 +8,24 @@ use oracle::finding::Refusal;
 pub struct Model<'a> {
     /// Property set and values, as the file has them.
     records: &'a [[u8; 12]],
-    /// The node of each name.
+    /// The node of each name, 0 if it isn't listed.
     named: [u8; 128],
+    /// The names that are listed, as a set of bits.
+    listed: u128,
     /// By axis and node, the set of nodes that the axis leads from to this node.
     predecessors: [[u64; 64]; 8],
 }
 
-/// The set of nodes where the root holds, or refusals 1 to 14.
+/// The set of nodes where the root holds, or refusals 1 to 14 and 27.
 pub fn judge(bytes: &[u8], model: &[u8], area: &mut [u8]) -> Result<u64, Refusal> {
     let entries = pattern::parse(bytes)?;
     let (holds, _) = area.as_chunks_mut::<8>();
     let holds: &mut Holds = holds.first_chunk_mut().ok_or(refused(9))?;
     let file = File::parse(model)?;
-    let mut model = Model { records: file.records, named: [UNLISTED; 128], predecessors: [[0; 64]; 8] };
+    let mut model = Model { records: file.records, named: [0; 128], listed: 0, predecessors: [[0; 64]; 8] };
     model.add_names(file.names)?;
     model.add_edges(file.edges)?;
+    model.check_names(pattern::used_names(entries))?;
     let nodes = root_nodes(entries, &model, holds);
     holds.fill([0; 8]);
     Ok(nodes)
@@ -53,16 +56,15 @@ impl<'a> File<'a> {
     }
 }
 
-/// In `named`, a name without a record: no node's number, and node 0 in its lowest six bits.
-const UNLISTED: u8 = 64;
-
 impl Model<'_> {
     fn add_names(&mut self, names: &[[u8; 2]]) -> Result<(), Refusal> {
         for (place, &[name, node]) in names.iter().enumerate() {
+            let repeated = self.listed >> (name % 128) & 1 == 1;
             match self.named.get_mut(name as usize) {
-                Some(named) if *named == UNLISTED && (node as usize) < self.records.len() => *named = node,
+                Some(named) if !repeated && (node as usize) < self.records.len() => *named = node,
                 _ => return Err(Refusal { number: 13, place: place as u16 }),
             }
+            self.listed |= 1 << (name % 128);
         }
         Ok(())
     }
@@ -78,6 +80,14 @@ impl Model<'_> {
         Ok(())
     }
 
+    /// Refusal 27 with the lowest of the names that isn't listed, if there is one.
+    fn check_names(&self, used: u128) -> Result<(), Refusal> {
+        match used & !self.listed {
+            0 => Ok(()),
+            missing => Err(Refusal { number: 27, place: missing.trailing_zeros() as u16 }),
+        }
+    }
+
     pub fn node_count(&self) -> usize {
         self.records.len()
     }
@@ -89,7 +99,7 @@ impl Model<'_> {
 
     /// The node of a name.
     pub fn node(&self, name: u8) -> u32 {
-        (self.named[name as usize % 128] % 64) as u32
+        self.named[name as usize % 128] as u32
     }
 
     /// The nodes that have a property.

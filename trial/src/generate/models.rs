@@ -1,11 +1,12 @@
-//! Random models that judging accepts.
+//! Random models that judging accepts, but for a name of the pattern that some of them lack.
 
 use super::patterns::Vocabulary;
 use oracle::model::{Model, Node};
+use oracle::pattern::Pattern;
 use oracle::random::Random;
 
-/// A model of a random size: mostly of a few nodes, seldom of up to 64 with up to 4,096 edges.
-pub fn random(random: &mut Random) -> Model {
+/// A model of a random size for the pattern: mostly of a few nodes, seldom of up to 64 with up to 4,096 edges.
+pub fn random(random: &mut Random, pattern: &Pattern) -> Model {
     let (nodes, edges) = match random.below(200) {
         0 => (random.between(32, 64), random.between(0, 4096)),
         1..10 => (random.between(8, 64), random.between(0, 200)),
@@ -14,7 +15,7 @@ pub fn random(random: &mut Random) -> Model {
     let vocabulary = Vocabulary::random(random);
     Model {
         nodes: (0..nodes).map(|_| node(random)).collect(),
-        names: names(random, vocabulary, nodes),
+        names: names(random, pattern, vocabulary, nodes),
         edges: (0..edges).map(|_| edge(random, vocabulary, nodes)).collect(),
     }
 }
@@ -28,16 +29,25 @@ fn node(random: &mut Random) -> Node {
     Node { properties: random.below(8) as u32, values: [0; 4].map(|_| random.below(2) as u16) }
 }
 
-/// Records of different names.
-fn names(random: &mut Random, vocabulary: Vocabulary, nodes: usize) -> Vec<(u8, u8)> {
-    let mut names = Vec::new();
+/// Records of different names in any order: the pattern's, now and then without one of them or without some, and
+/// up to five that it doesn't use.
+fn names(random: &mut Random, pattern: &Pattern, vocabulary: Vocabulary, nodes: usize) -> Vec<(u8, u8)> {
+    let mut names: Vec<u8> = pattern.names().into_iter().collect();
+    match random.below(16) {
+        0..2 if !names.is_empty() => {
+            names.swap_remove(random.below(names.len()));
+        }
+        2..4 => names.retain(|_| random.once_in(2)),
+        _ => {}
+    }
     for _ in 0..random.below(6) {
-        let name = random.below(vocabulary.names) as u8;
-        if names.iter().all(|&(listed, _)| listed != name) {
-            names.push((name, random.below(nodes) as u8));
+        let other = random.below(vocabulary.names) as u8;
+        if !pattern.uses(other) && !names.contains(&other) {
+            names.push(other);
         }
     }
-    names
+    random.shuffle(&mut names);
+    names.into_iter().map(|name| (name, random.below(nodes) as u8)).collect()
 }
 
 fn edge(random: &mut Random, vocabulary: Vocabulary, nodes: usize) -> (u8, u8, u8) {

@@ -8,7 +8,7 @@ use super::mutate::{Sort, mutate};
 use super::rename::Renaming;
 use super::walk::Walker;
 use super::{limits, models, patterns};
-use oracle::pattern::Pattern;
+use oracle::pattern::{self, Pattern};
 use oracle::random::Random;
 
 /// How many of a hundred inputs are of each kind.
@@ -46,8 +46,9 @@ pub fn make(random: &mut Random, corpus: &Corpus, input: &mut Input) {
         }
         Kind::ValidModel | Kind::MutatedModel => random_model(random, input),
         Kind::ModelLimit => {
-            input.pattern = patterns::random(random).to_bytes();
-            limits::model::model(random, &mut input.proposal);
+            let pattern = patterns::random(random);
+            input.pattern = pattern.to_bytes();
+            limits::model::model(random, &pattern, &mut input.proposal);
             input.operation = Operation::Model;
         }
         Kind::PlannedModel | Kind::MutatedPlannedModel => planned_model(random, corpus, input),
@@ -94,12 +95,16 @@ fn mutated_pattern(random: &mut Random, corpus: &Corpus, input: &mut Input) {
     mutate(random, Sort::Pattern, &mut input.pattern);
 }
 
-/// Reading, or a judgement of a valid proposal, which a refusal of the pattern hides.
+/// Reading, or a judgement of a valid proposal, which a refusal of the pattern hides. A model is one for the
+/// pattern, if that is read, so that it mostly lists the pattern's names.
 fn any_operation(random: &mut Random, corpus: &Corpus, input: &mut Input) {
     input.operation = random.pick(&Operation::ALL);
     match input.operation {
         Operation::Reading => {}
-        Operation::Model => input.proposal.clone_from(&any(random, &corpus.met).proposal_file),
+        Operation::Model => match pattern::parse(&input.pattern) {
+            Ok(pattern) => input.proposal = models::random(random, &pattern).to_bytes(),
+            Err(_) => input.proposal.clone_from(&any(random, &corpus.met).proposal_file),
+        },
         Operation::Tableau => input.proposal.clone_from(&any(random, &corpus.closed).proposal_file),
     }
 }
@@ -110,11 +115,20 @@ fn any<'c>(random: &mut Random, planned: &'c [Planned]) -> &'c Planned {
 
 fn random_model(random: &mut Random, input: &mut Input) {
     input.operation = Operation::Model;
-    input.pattern = patterns::random(random).to_bytes();
-    input.proposal = models::random(random).to_bytes();
+    let pattern = patterns::random(random);
+    input.pattern = pattern.to_bytes();
+    input.proposal = models::random(random, &pattern).to_bytes();
+    rename_model(random, input);
     if input.kind == Kind::MutatedModel {
         mutate(random, Sort::Model, &mut input.proposal);
     }
+}
+
+/// Renames in the pattern and in the model: names that are missing are then any of the 128.
+fn rename_model(random: &mut Random, input: &mut Input) {
+    let renaming = Renaming::random(random);
+    renaming.pattern(&mut input.pattern);
+    renaming.model(&mut input.proposal);
 }
 
 fn planned_model(random: &mut Random, corpus: &Corpus, input: &mut Input) {
@@ -122,9 +136,7 @@ fn planned_model(random: &mut Random, corpus: &Corpus, input: &mut Input) {
     let planned = any(random, &corpus.met);
     input.pattern.clone_from(&planned.pattern_file);
     input.proposal.clone_from(&planned.proposal_file);
-    let renaming = Renaming::random(random);
-    renaming.pattern(&mut input.pattern);
-    renaming.model(&mut input.proposal);
+    rename_model(random, input);
     if input.kind == Kind::MutatedPlannedModel {
         mutate(random, Sort::Model, &mut input.proposal);
     }
@@ -209,8 +221,10 @@ fn noise(random: &mut Random, beginning: &[u8], file: &mut Vec<u8>) {
 fn model_of_closed(random: &mut Random, corpus: &Corpus, input: &mut Input) {
     input.operation = Operation::Model;
     input.never = Some(Never::Met);
-    input.pattern.clone_from(&any(random, &corpus.closed).pattern_file);
-    input.proposal = models::random(random).to_bytes();
+    let planned = any(random, &corpus.closed);
+    input.pattern.clone_from(&planned.pattern_file);
+    input.proposal = models::random(random, &planned.pattern).to_bytes();
+    rename_model(random, input);
 }
 
 /// A random tableau for a pattern that has a model which meets it, so that none closes.

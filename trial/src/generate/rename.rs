@@ -1,5 +1,5 @@
 //! Other names, properties, axes and channels throughout a pattern and its proposal, which change no
-//! finding: one plan gives many inputs.
+//! finding but the name that refusal 27 gives: one plan gives many inputs.
 
 use oracle::random::Random;
 
@@ -47,8 +47,7 @@ impl Renaming {
         }
     }
 
-    /// Renames in a valid model file. Names that weren't listed are not listed afterwards, so they still
-    /// name node 0.
+    /// Renames in a valid model file. A name that the pattern uses is listed afterwards if it was before.
     pub fn model(self, file: &mut [u8]) {
         let (nodes, names) = (file[5] as usize, file[6] as usize);
         let (node_records, rest) = file[9..].split_at_mut(12 * nodes);

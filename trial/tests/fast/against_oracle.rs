@@ -2,7 +2,7 @@
 
 use oracle::random::Random;
 use trial::benchmark::case::{Case, Proposal};
-use trial::benchmark::inputs::models::{Size, random_model};
+use trial::benchmark::inputs::models::{self, Size, random_model};
 use trial::benchmark::inputs::tableaux::{self, Fresh, workshop};
 use trial::benchmark::inputs::{patterns, readings};
 use trial::benchmark::judge::{FAST, ORACLE};
@@ -18,12 +18,12 @@ fn agree(case: &Case, length: usize) {
     assert!(fast.1 == oracle.1, "{}: areas differ after {}", case.name, fast.0);
 }
 
-/// A mixed pattern and a small model, different ones for each seed.
+/// A mixed pattern and a small model, different ones for each seed. Now and then names of the pattern are missing.
 fn mixed_case(seed: u64) -> Case {
     let mut random = Random::new(seed, 2);
     let size = Size {
         nodes: random.between(1, 64),
-        names: random.below(129),
+        names: if random.once_in(4) { random.below(128) } else { 128 },
         edges: random.below(300),
         axes: random.between(1, 8),
         values: random.between(1, 5),
@@ -36,6 +36,16 @@ fn mixed_case(seed: u64) -> Case {
 fn mixed_models() {
     for seed in 0..1500 {
         agree(&mixed_case(seed), 2040);
+    }
+}
+
+/// A model that is refused would be timed for nothing.
+#[test]
+fn models_that_are_timed_are_judged() {
+    for case in models::cases() {
+        agree(&case, 2040);
+        let finding = (FAST.finding)(&case, &mut [0; 2040]);
+        assert!(!finding.starts_with("refused"), "{}: {finding}", case.name);
     }
 }
 

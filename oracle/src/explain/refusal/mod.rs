@@ -1,9 +1,11 @@
 //! A refusal in a sentence: what its number means, and what stands at its place.
 
 mod file;
+mod names;
 mod step;
 
 pub use file::{of_model, of_pattern, of_tableau};
+pub use names::of_names;
 pub use step::of_step;
 
 use crate::finding::{Finding, Refusal};
@@ -21,13 +23,14 @@ pub fn refused(refusal: Refusal) -> String {
         13 => format!(", name record {place}"),
         14 => format!(", edge record {place}"),
         19..=25 => format!(", step {place}"),
+        27 => format!(", name {place}"),
         _ => String::new(),
     };
     format!("{}{where_at}: {}", Finding::Refused(refusal), MEANINGS[number as usize - 1])
 }
 
-/// By refusal number, from 1: what document 01 says of it.
-const MEANINGS: [&str; 26] = [
+/// By refusal number, from 1: what documents 01 and 02 say of it.
+const MEANINGS: [&str; 27] = [
     "the pattern file has under 6 bytes or doesn't begin with PAT",
     "the pattern file's version isn't 1",
     "the number of entries is zero, or the pattern file's length isn't 6 + 4 for each",
@@ -54,4 +57,5 @@ const MEANINGS: [&str; 26] = [
     "it forks while 64 right sides already wait",
     "all branches are already closed",
     "the steps are at an end and a branch is still open",
+    "the pattern uses it and the model doesn't list it",
 ];

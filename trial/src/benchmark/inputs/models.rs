@@ -10,6 +10,7 @@ use oracle::random::Random;
 #[derive(Clone, Copy)]
 pub struct Size {
     pub nodes: usize,
+    /// Names 0 up to this number are listed.
     pub names: usize,
     pub edges: usize,
     /// Edges are spread over axes 0 up to this number.
@@ -19,6 +20,8 @@ pub struct Size {
 }
 
 pub const TYPICAL: Size = Size { nodes: 16, names: 8, edges: 40, axes: 3, values: 6 };
+/// Lists every name, as the mixed patterns want it.
+const ALL_NAMES: Size = Size { names: 128, ..TYPICAL };
 pub const LARGE: Size = Size { nodes: 64, names: 128, edges: 4096, axes: 8, values: 65536 };
 /// Every node leads to every node, on one axis.
 const COMPLETE: Size = Size { axes: 1, ..LARGE };
@@ -65,7 +68,7 @@ pub fn cases() -> Vec<Case> {
         judged("large, mixed, four values", &mixed, FEW_VALUES),
         judged("large, mixed, 512 edges", &mixed, SPARSE),
         judged("small pattern, large model", &typical, LARGE),
-        judged("large pattern, small model", &mixed, TYPICAL),
+        judged("large pattern, small model", &mixed, ALL_NAMES),
         judged("both shared, 2^126 routes", &patterns::shared_nodes(255), LARGE),
         judged("forks shared, 252 deep", &patterns::shared_forks(255), LARGE),
         judged("254 steps, 8 axes", &patterns::long_path(255, 8), LARGE),

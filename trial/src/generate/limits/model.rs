@@ -1,22 +1,23 @@
 //! Models at the limits: short files, counts and records at the ends of their ranges.
 
 use super::{cut_short, misjudge_length, spoil_header};
+use oracle::pattern::Pattern;
 use oracle::random::Random;
 
-/// Writes a model file at a limit or one over.
-pub fn model(random: &mut Random, file: &mut Vec<u8>) {
+/// Writes a model file at a limit or one over, for the pattern: it lists the pattern's names, if it has so many.
+pub fn model(random: &mut Random, pattern: &Pattern, file: &mut Vec<u8>) {
     match random.below(16) {
         0 | 1 => {
-            counts(random, file, [1, 0, 0]);
+            counts(random, pattern, file, [1, 0, 0]);
             cut_short(random, file);
         }
         2 | 3 => {
-            counts(random, file, [1, 1, 1]);
+            counts(random, pattern, file, [1, 1, 1]);
             spoil_header(random, file);
         }
         4 => {
             let edges = random.pick(&[4095, 4096, 4096, 4097]);
-            counts(random, file, [64, 128, edges]);
+            counts(random, pattern, file, [64, 128, edges]);
             misjudge_length(random, file);
             if random.once_in(2) {
                 border_record(random, file, [64, 128, edges]);
@@ -26,21 +27,20 @@ pub fn model(random: &mut Random, file: &mut Vec<u8>) {
             let nodes = random.pick(&[0, 1, 63, 64, 65, 255]);
             let names = random.pick(&[0, 1, 127, 128, 129, 255]);
             let edges = random.pick(&[0, 1, 2, 255, 256]);
-            counts(random, file, [nodes, names, edges]);
+            counts(random, pattern, file, [nodes, names, edges]);
             misjudge_length(random, file);
         }
         _ => {
             let nodes = random.pick(&[1, 2, 63, 64]);
             let (names, edges) = (random.between(1, 5), random.between(1, 5));
-            counts(random, file, [nodes, names, edges]);
+            counts(random, pattern, file, [nodes, names, edges]);
             border_record(random, file, [nodes, names, edges]);
         }
     }
 }
 
-/// A file of so many nodes, names and edges, as long as they make it. Names are listed once as far as
-/// they go, from 0 up or from 127 down.
-fn counts(random: &mut Random, file: &mut Vec<u8>, [nodes, names, edges]: [usize; 3]) {
+/// A file of so many nodes, names and edges, as long as they make it.
+fn counts(random: &mut Random, pattern: &Pattern, file: &mut Vec<u8>, [nodes, names, edges]: [usize; 3]) {
     file.clear();
     file.extend(b"DAT\x01\x00");
     file.extend([nodes as u8, names as u8]);
@@ -51,14 +51,19 @@ fn counts(random: &mut Random, file: &mut Vec<u8>, [nodes, names, edges]: [usize
     }
     let down = random.once_in(2);
     let node = |random: &mut Random| random.below(nodes.max(1)) as u8;
-    for name in 0..names {
-        let name = if down { 127u8.wrapping_sub(name as u8) } else { name as u8 };
+    for name in in_turn(pattern, down).take(names) {
         file.extend([name, node(random)]);
     }
     for _ in 0..edges {
         let (from, axis, to) = (node(random), random.below(8) as u8, node(random));
         file.extend([from, axis, to]);
     }
+}
+
+/// Every name once, the pattern's first, then the others from 0 up or from 127 down; then what is out of range.
+fn in_turn(pattern: &Pattern, down: bool) -> impl Iterator<Item = u8> {
+    let others = (0..128).map(move |name| if down { 127 - name } else { name });
+    pattern.names().into_iter().chain(others.filter(|&name| !pattern.uses(name))).chain(128..=255)
 }
 
 /// Sets one field of one name or edge record to the end of its range or one over, or makes a name that

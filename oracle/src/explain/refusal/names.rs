@@ -1,0 +1,30 @@
+//! What refusal 27 points at: the entries that have the name, and the other names that aren't listed.
+
+use super::sentence;
+use crate::explain::wording::joined;
+use crate::finding::Refusal;
+use crate::model::Model;
+use crate::pattern::Pattern;
+
+/// The refusal's place is a name that the pattern uses.
+pub fn of_names(pattern: &Pattern, model: &Model, refusal: Refusal) -> String {
+    let name = refusal.place as u8;
+    let removed = format!("Name n{name} of the pattern isn't listed: was its meter removed?");
+    let mut details = vec![removed, users(pattern, name)];
+    let others = pattern.names().into_iter().filter(|&other| other != name && !model.lists(other));
+    let others = joined(others.map(|other| format!("n{other}")));
+    if !others.is_empty() {
+        details.push(format!("Not listed either: {others}."));
+    }
+    sentence(refusal, &details.join("\n"))
+}
+
+/// The entries that have the name, of which there is at least one.
+fn users(pattern: &Pattern, name: u8) -> String {
+    let entries = (0..pattern.entries.len()).filter(|&entry| pattern.entries[entry].name() == Some(name));
+    let entries: Vec<String> = entries.map(|entry| entry.to_string()).collect();
+    match &entries[..] {
+        [entry] => format!("Entry {entry} of the pattern has it."),
+        _ => format!("Entries {} of the pattern have it.", entries.join(" ")),
+    }
+}
