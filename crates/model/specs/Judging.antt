@@ -117,13 +117,13 @@ pub names-pass : (bs ds : List ℕ) → Valid bs (countOf bs) → (namesCheck bs
 unfolding namesCheck
 names-pass bs ds ok = (apart, together)
   where
+    together : NamesListed bs ds → namesCheck bs ds ≡ passes
+    together h = rw (none-below (isMissing bs ds) (maxName + 1) (λ i l. listed-so (usesName bs i) (isListed ds i) (h i)))
+
     apart : namesCheck bs ds ≡ passes → NamesListed bs ds
     apart h i used =
         missing-not (usesName bs i) (isListed ds i)
         (none-at (isMissing bs ds) (maxName + 1) i (refusesIf-passes _ 27 _ h) (let l = used-in-range ok i used in omega arith)) used
-
-    together : NamesListed bs ds → namesCheck bs ds ≡ passes
-    together h = rw (none-below (isMissing bs ds) (maxName + 1) (λ i l. listed-so (usesName bs i) (isListed ds i) (h i)))
 
 -- it goes by the lowest missing name: one in range is the place of the refusal, and where none is, the check passes
 pub lowest-refused : (bs ds : List ℕ) → lowestBelow (maxName + 1) (isMissing bs ds) ≤ maxName
@@ -138,6 +138,17 @@ unfolding namesCheck
 lowest-passes bs ds l = rw (none-below (isMissing bs ds) (maxName + 1) (λ i h. lowest-first (maxName + 1) (isMissing bs ds) i (omega arith)))
 
 -- ---- what is found
+
+module _ (bs ds : List ℕ) (size : ℕ) (ok : patternCheck bs ≡ passes) (long : areaNeed bs ≤ size) where
+  -- "after every 14 check": what a model file is refused for is found whatever names it lists
+  pub file-decides : (number place : ℕ) → modelCheck ds ≡ refuses number place → judgingCheck bs ds size ≡ refuses number place
+  unfolding judgingCheck
+  file-decides number place h = rw (ok, le-ltb size (areaNeed bs) long, h)
+
+  -- and of one that isn't, the names decide
+  pub names-decide : modelCheck ds ≡ passes → judgingCheck bs ds size ≡ namesCheck bs ds
+  unfolding judgingCheck
+  names-decide h = rw (ok, le-ltb size (areaNeed bs) long, h)
 
 -- the checks pass exactly where nothing is to be refused
 pub checks-pass : (bs ds : List ℕ) (size : ℕ)
@@ -155,7 +166,7 @@ checks-pass bs ds size = (apart, together)
 
     together : Valid bs (countOf bs) × (areaNeed bs ≤ size) × ValidModel ds × NamesListed bs ds → judgingCheck bs ds size ≡ passes
     together h =
-        rw (valid-passes bs (countOf bs) (h .0), le-ltb size (areaNeed bs) (h .1), model-accepted ds (h .2)) (names-pass bs ds (h .0) .1 (h .3))
+        names-decide bs ds size (valid-passes bs (countOf bs) (h .0)) (h .1) (model-accepted ds (h .2)) ∙ names-pass bs ds (h .0) .1 (h .3)
 
 -- Demand 2 for models: judging finds j exactly where j is so.
 pub judging-says : (bs ds : List ℕ) (size : ℕ) (j : Judged) → (judgingOf bs ds size ≡ found j) ↔ Judgement bs ds size j

@@ -1,9 +1,8 @@
 -- Sets of names: which names a set has, and the operations on sets by what they have. A set is two sets of numbers, one for each half of
 -- the names; the laws, `has-..`, say what each set has, and the rest of the program rests on them alone.
 -- Assumes nothing.
-use mathlib.Core.Path.{_≡_, refl, sym, _∙_, ap, ap₂}
+use mathlib.Core.Path.{_≡_, refl, sym, _∙_, ap}
 use mathlib.Core.Bool.{Bool, true, false, not, _&&_, _||_, or-true, or-false}
-use mathlib.Core.Logic.{_⊎_, inl, inr}
 use Prim.Native.Nat.{ℕ, _+_, _-_, _≤_, _<_}
 use native.Mathlib.Omega.{arith}
 use lib.Dec.{eqb, ltb}
@@ -96,10 +95,6 @@ has-minus s t i = go (ltb i width) refl
     go : (b : Bool) → ltb i width ≡ b → has (minus s t) i ≡ has s i && not (has t i)
     go true e = rw e (half.has-minus (s .low) (t .low) i)
     go false e = rw e (half.has-minus (s .high) (t .high) (i - width))
-
--- a set has no name above 01's last
-pub has-beyond : (s : NameSet) (i : ℕ) → maxName < i → has s i ≡ false
-has-beyond s i l = has-high s i (omega arith) ∙ half.has-beyond (s .high) (i - width) (omega arith)
 
 -- the lowest is that of the low half, if it has one
 pub lowest-low : (s : NameSet) → half.lowestOf (s .low) < width → lowestOf s ≡ half.lowestOf (s .low)

@@ -56,11 +56,13 @@ loop-less c = search needs
 loop-again : tie.Need-loop-again Inv-loop μ-loop
 loop-again c =
     let l = c .before .before .before in
-    let d = l .before .before .before .before .args .d .now in
-    (search needs, λ i. ap (λ (s : NameSet). has s i) (c .insert .ensures)
-      ∙ has-insert (l .loop .names) (c .before .name-of .result) i (name-read (c .before))
-      ∙ ap₂ (λ (t : Bool) (x : ℕ). t || eqb x i) (l .loop .inv .1 i) (c .before .name-of .ensures)
-      ∙ sym (some-next (recordLists d i) (l .loop .j)))
+    let d = l .before .before .before .before .args .d .now in (
+      search needs,
+      λ i. ap (λ (s : NameSet). has s i) (c .insert .ensures)
+          ∙ has-insert (l .loop .names) (c .before .name-of .result) i (name-read (c .before))
+          ∙ ap₂ (λ (t : Bool) (x : ℕ). t || eqb x i) (l .loop .inv .1 i) (c .before .name-of .ensures)
+          ∙ sym (some-next (recordLists d i) (l .loop .j)),
+    )
 
 returns : tie.Need-returns Inv-loop μ-loop
 unfolding isListed

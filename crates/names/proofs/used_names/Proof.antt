@@ -49,10 +49,12 @@ loop-less c = search needs
 loop-again : tie.Need-loop-again Inv-loop μ-loop
 loop-again c =
     let l = c .before .before .before in
-    let bs = l .before .before .before .args .p .now in
-    (search needs, λ i. c .with-name-of .ensures i
-      ∙ ap₂ (λ (t : Bool) (e : Entry). t || hasName (e .kind) (e .x) i) (l .loop .inv .1 i) (c .before .at .ensures)
-      ∙ sym (some-next (entryUses bs i) (l .loop .k)))
+    let bs = l .before .before .before .args .p .now in (
+      search needs,
+      λ i. c .with-name-of .ensures i
+          ∙ ap₂ (λ (t : Bool) (e : Entry). t || hasName (e .kind) (e .x) i) (l .loop .inv .1 i) (c .before .at .ensures)
+          ∙ sym (some-next (entryUses bs i) (l .loop .k)),
+    )
 
 returns : tie.Need-returns Inv-loop μ-loop
 unfolding usesName

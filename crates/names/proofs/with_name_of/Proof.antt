@@ -1,11 +1,8 @@
 -- `names::with_name_of` meets its contract: a name is inserted where the entry has one.
 -- Assumes nothing.
-use mathlib.Core.Path.{_≡_, refl, sym, _∙_, ap}
-use mathlib.Core.Bool.{Bool, true, false, _&&_, _||_, or-false}
-use Prim.Native.Nat.{ℕ}
-use lib.Dec.{eqb}
-use Rattle.pattern.specs.Meaning.Names.{holdsName}
-use Rattle.names.specs.Set.{has, has-insert}
+use mathlib.Core.Path.{sym, _∙_}
+use mathlib.Core.Bool.{or-false}
+use Rattle.names.specs.Set.{has-insert}
 use borrow.Author.Needs.{needs}
 use Rattle.names.proofs.with_name_of.Statement.{statement}
 use Rattle.names.proofs.with_name_of.Tie as tie

@@ -2,14 +2,14 @@
 -- said once, at the place behind it.
 -- Assumes nothing.
 use borrow.Author.Needs.{needs}
-use borrow.Author.Tests.{lt-ltb, le-ltb}
+use borrow.Author.Tests.{lt-ltb}
 use mathlib.Core.Path.{_≡_, sym, _∙_, ap}
 use Rattle.pattern.specs.Checks.Finding.{found, passes}
 use Rattle.pattern.specs.File.Reading.{patternCheck, readingOf, findingOf}
 use Rattle.pattern.specs.File.Valid.{read-passes, read-refuses}
 use Rattle.model_file.specs.Checks.{modelCheck, checkOf}
 use Rattle.model_file.specs.Valid.{model-valid}
-use Rattle.model.specs.Judging.{judgingCheck}
+use Rattle.model.specs.Judging.{judgingCheck, file-decides, names-decide}
 use Rattle.model.proofs.judge.check_all.Statement.{statement}
 use Rattle.model.proofs.judge.check_all.Tie as tie
 
@@ -47,13 +47,10 @@ enum-known-refusal-2 : tie.Need-enum-known-refusal-2
 enum-known-refusal-2 c = search needs
 
 returns-3 : tie.Need-returns-3
-unfolding judgingCheck
 returns-3 c = let k = c .before .before .before in
-    rw (
-      pattern-passed (k .before .before .before),
-      le-ltb _ 2040 (k .before .if1 .left),
-      sym (k .check .ensures) ∙ ap checkOf (c .before .refusal2 .given .1),
-    )
+    sym
+    (file-decides _ _ _ (pattern-passed (k .before .before .before)) (k .before .if1 .left) _ _
+    (sym (k .check .ensures) ∙ ap checkOf (c .before .refusal2 .given .1)))
 
 enum-told : tie.Need-enum-told
 enum-told c = search needs
@@ -66,14 +63,9 @@ check-names-requires : tie.Need-check-names-requires
 check-names-requires c κs = (pattern-read (c .before .before .before .before .before), model-valid _ (model-passed c))
 
 returns-4 : tie.Need-returns-4
-unfolding judgingCheck
 returns-4 c = let k = c .before in
-    rw (
-      pattern-passed (k .before .before .before .before .before),
-      le-ltb _ 2040 (k .before .before .before .if1 .left),
-      model-passed k,
-    )
-    (c .check-names .ensures)
+    c .check-names .ensures
+    ∙ sym (names-decide _ _ _ (pattern-passed (k .before .before .before .before .before)) (k .before .before .before .if1 .left) (model-passed k))
 
 pub check-all-spec : {M : Type 1} → statement M
 check-all-spec =

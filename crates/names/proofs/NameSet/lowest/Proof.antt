@@ -4,7 +4,7 @@ use mathlib.Core.Path.{sym, _∙_, ap}
 use Prim.Native.Nat.{ℕ, _+_}
 use native.Mathlib.Omega.{arith}
 use Rattle.nodeset.specs.Below.{lowest-le}
-use Rattle.nodeset.specs.Set.{width} 
+use Rattle.nodeset.specs.Set.{width}
 use Rattle.nodeset.specs.Set as half
 use Rattle.names.specs.Set.{lowest-low, lowest-high}
 use borrow.Author.Needs.{needs}
