@@ -211,8 +211,7 @@ Model of 2 nodes, 2 names, 1 edge:
   node 0: values 0 0 0 0; named n3; a2 to 1
   node 1: values 1 0 0 0; named n5
 
-Finding: refused 27 6, name 6: the pattern uses it and the model doesn't list it.
-Name n6 of the pattern isn't listed: was its meter removed?
+Finding: refused 27 6: name n6 of the pattern isn't listed: was its meter removed?
 Entry 0 of the pattern has it.
 ";
     let unreached = pattern(&[[2, 6, 0, 0], [2, 5, 0, 0]]);
@@ -230,8 +229,7 @@ Entry 0 of the pattern has it.
     ]);
     assert_eq!(
         finding(&several, &removed),
-        "Finding: refused 27 6, name 6: the pattern uses it and the model doesn't list it.\n\
-         Name n6 of the pattern isn't listed: was its meter removed?\n\
+        "Finding: refused 27 6: name n6 of the pattern isn't listed: was its meter removed?\n\
          Entries 1 3 of the pattern have it.\n\
          Not listed either: n90 n127.\n"
     );
@@ -343,7 +341,7 @@ fn the_finding_explained_is_the_finding_judged() {
     let mut noise = 1;
     for round in 0..8000 {
         let mut files = [patterns[round % 4].clone(), proposals[round / 4 % 4].clone()];
-        let damaged = &mut files[round % 2];
+        let damaged = &mut files[round / 16 % 2];
         let at = next(&mut noise) % damaged.len();
         match next(&mut noise) % 3 {
             0 => damaged[at] = next(&mut noise) as u8,

@@ -1,4 +1,4 @@
-//! The proved library against other implementations of document 01.
+//! The proved library against other implementations of documents 01 and 02.
 
 pub mod benchmark;
 pub mod differential;

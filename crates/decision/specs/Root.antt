@@ -1,4 +1,4 @@
--- Whether the root of a pattern holds at a number, in a finite model.
+-- Whether the root of a pattern holds at a number, in a finite model, and that names which the pattern doesn't use bear on nothing found.
 -- Assumes nothing.
 use mathlib.Core.Path.{_≡_, refl, sym, subst}
 use mathlib.Core.Bool.{Bool, true, false, _&&_}

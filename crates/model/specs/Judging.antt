@@ -49,7 +49,7 @@ isMissing bs ds i = usesName bs i && not (isListed ds i)
 unfoldable pub namesCheck : List ℕ → List ℕ → Check
 namesCheck bs ds = refusesIf (someBelow (maxName + 1) (isMissing bs ds)) 27 (lowestBelow (maxName + 1) (isMissing bs ds))
 
--- "Refused 1 to 8 as above. 9: .. 10: .." and on, for a working area of this many bytes
+-- "Refused 1 to 8 as above. 9: .. 10: .." and on to 14, and then 27, for a working area of this many bytes
 unfoldable pub judgingCheck : List ℕ → List ℕ → ℕ → Check
 judgingCheck bs ds size = patternCheck bs then areaCheck bs size then modelCheck ds then namesCheck bs ds
 
@@ -113,17 +113,15 @@ listed-so true listed h = ap not (h refl)
 listed-so false listed h = refl
 
 -- the check of the names passes exactly where all are listed
-pub names-pass : (bs ds : List ℕ) → Valid bs (countOf bs) → (namesCheck bs ds ≡ passes) ↔ NamesListed bs ds
+names-accepted : (bs ds : List ℕ) → NamesListed bs ds → namesCheck bs ds ≡ passes
 unfolding namesCheck
-names-pass bs ds ok = (apart, together)
-  where
-    together : NamesListed bs ds → namesCheck bs ds ≡ passes
-    together h = rw (none-below (isMissing bs ds) (maxName + 1) (λ i l. listed-so (usesName bs i) (isListed ds i) (h i)))
+names-accepted bs ds h = rw (none-below (isMissing bs ds) (maxName + 1) (λ i l. listed-so (usesName bs i) (isListed ds i) (h i)))
 
-    apart : namesCheck bs ds ≡ passes → NamesListed bs ds
-    apart h i used =
-        missing-not (usesName bs i) (isListed ds i)
-        (none-at (isMissing bs ds) (maxName + 1) i (refusesIf-passes _ 27 _ h) (let l = used-in-range ok i used in omega arith)) used
+names-pass : (bs ds : List ℕ) → Valid bs (countOf bs) → namesCheck bs ds ≡ passes → NamesListed bs ds
+unfolding namesCheck
+names-pass bs ds ok h i used =
+    missing-not (usesName bs i) (isListed ds i)
+    (none-at (isMissing bs ds) (maxName + 1) i (refusesIf-passes _ 27 _ h) (let l = used-in-range ok i used in omega arith)) used
 
 -- it goes by the lowest missing name: one in range is the place of the refusal, and where none is, the check passes
 pub lowest-refused : (bs ds : List ℕ) → lowestBelow (maxName + 1) (isMissing bs ds) ≤ maxName
@@ -162,11 +160,11 @@ checks-pass bs ds size = (apart, together)
         let b = then-passes (areaCheck bs size) (modelCheck ds then namesCheck bs ds) (a .1) in
         let c = then-passes (modelCheck ds) (namesCheck bs ds) (b .1) in
         let ok = passes-valid bs (a .0) in
-        (ok, ltb-false size (areaNeed bs) (refusesIf-passes _ 9 0 (b .0)), model-valid ds (c .0), names-pass bs ds ok .0 (c .1))
+        (ok, ltb-false size (areaNeed bs) (refusesIf-passes _ 9 0 (b .0)), model-valid ds (c .0), names-pass bs ds ok (c .1))
 
     together : Valid bs (countOf bs) × (areaNeed bs ≤ size) × ValidModel ds × NamesListed bs ds → judgingCheck bs ds size ≡ passes
     together h =
-        names-decide bs ds size (valid-passes bs (countOf bs) (h .0)) (h .1) (model-accepted ds (h .2)) ∙ names-pass bs ds (h .0) .1 (h .3)
+        names-decide bs ds size (valid-passes bs (countOf bs) (h .0)) (h .1) (model-accepted ds (h .2)) ∙ names-accepted bs ds (h .3)
 
 -- Demand 2 for models: judging finds j exactly where j is so.
 pub judging-says : (bs ds : List ℕ) (size : ℕ) (j : Judged) → (judgingOf bs ds size ≡ found j) ↔ Judgement bs ds size j
@@ -190,12 +188,15 @@ judging-says bs ds size j = (apart, together)
         rw (checks-pass bs ds size .1 (h .pattern-valid, h .area-long, h .model-valid, h .names-listed))
         (ap found (judged-says (modelFrom ds) (all-named (h .model-valid)) (rootOf bs) j .1 (h .says)))
 
--- a model that lists the names of the pattern is judged as it was before 02's Job 1, without its check
-pub listed-as-before : (bs ds : List ℕ) (size : ℕ) → NamesListed bs ds
-    → judgingOf bs ds size ≡ unless (patternCheck bs then areaCheck bs size then modelCheck ds) (judgedOf (modelFrom ds) (rootOf bs))
-unfolding judgingOf judgingCheck namesCheck
+-- what judging found before 02's Job 1, without its check
+abbrev pub judgingBefore : List ℕ → List ℕ → ℕ → Finding Judged
+judgingBefore bs ds size = unless (patternCheck bs then areaCheck bs size then modelCheck ds) (judgedOf (modelFrom ds) (rootOf bs))
+
+-- a model that lists the names of the pattern is judged as before
+pub listed-as-before : (bs ds : List ℕ) (size : ℕ) → NamesListed bs ds → judgingOf bs ds size ≡ judgingBefore bs ds size
+unfolding judgingOf judgingCheck
 listed-as-before bs ds size h =
-    rw (none-below (isMissing bs ds) (maxName + 1) (λ i l. listed-so (usesName bs i) (isListed ds i) (h i)))
+    rw (names-accepted bs ds h)
     (ap (λ (c : Check). unless c (judgedOf (modelFrom ds) (rootOf bs))) (last-passes (patternCheck bs) (areaCheck bs size) (modelCheck ds)))
   where
     last-passes : (a b c : Check) → a then b then c then passes ≡ a then b then c
@@ -205,8 +206,7 @@ listed-as-before bs ds size h =
     last-passes passes passes passes = refl
 
 -- "Readings without names keep their findings.": so is any model, for a pattern that uses no name
-pub nameless-as-before : (bs ds : List ℕ) (size : ℕ) → ((i : ℕ) → usesName bs i ≡ false)
-    → judgingOf bs ds size ≡ unless (patternCheck bs then areaCheck bs size then modelCheck ds) (judgedOf (modelFrom ds) (rootOf bs))
+pub nameless-as-before : (bs ds : List ℕ) (size : ℕ) → ((i : ℕ) → usesName bs i ≡ false) → judgingOf bs ds size ≡ judgingBefore bs ds size
 nameless-as-before bs ds size none = listed-as-before bs ds size (λ i used. absurd (false≢true (sym (none i) ∙ used)))
 
 -- "node 0 stands in only for names that the pattern doesn't use": whatever nodes they named instead, the finding would be the same

@@ -1,5 +1,5 @@
-// Judging a model: document 01's refusals in its order, and then met, with the lowest node and the
-// number of nodes, or unmet.
+// Judging a model: the refusals of document 01 in its order, document 02's 27 behind them, and then
+// met, with the lowest node and the number of nodes, or unmet.
 use model_file::ModelCheck;
 use model_file::ModelRefusal;
 use model_file::check;
@@ -74,7 +74,7 @@ pub enum ModelFinding {
 pub const AREA: usize = NodeSet::BYTES * MAX_ENTRIES;
 
 // Refusal 27: a name that the pattern, of n entries, uses and the model doesn't list; the lowest.
-fn check_names(p: &[u8], n: u8, d: &[u8]) -> JudgeCheck
+fn check_listed(p: &[u8], n: u8, d: &[u8]) -> JudgeCheck
     requires { ⌜ readingOf (now p) ≡ found n ⌝ }
     requires { ⌜ ValidModel (now d) ⌝ }
     ensures { λ r. ⌜ checkOf r ≡ namesCheck (now (p .entry)) (now (d .entry)) ⌝ }
@@ -103,7 +103,7 @@ fn check_all(p: &[u8], d: &[u8], size: usize) -> JudgeCheck
     if let ModelCheck::Refused(refusal) = check(d) {
         return JudgeCheck::Refused(JudgeRefusal::Model(refusal));
     }
-    check_names(p, n, d)
+    check_listed(p, n, d)
 }
 
 // The finding of the set of the nodes at which the root holds.

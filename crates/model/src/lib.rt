@@ -1,2 +1,2 @@
-// Judging a model: the refusals of document 01 in its order, and the judgement.
+// Judging a model: the refusals of documents 01 and 02 in their order, and the judgement.
 pub mod judge;

@@ -1,4 +1,4 @@
--- The finite model that a model file stands for.
+-- The finite model that a model file stands for, and which names it lists.
 -- Assumes nothing.
 use mathlib.Core.Bool.{Bool, _&&_}
 use mathlib.Core.List.{List}
@@ -39,8 +39,8 @@ isListed ds i = someBelow (nameCount ds) (recordLists ds i)
 abbrev pub recordOfName : List ℕ → ℕ → ℕ
 recordOfName ds i = lowestBelow (nameCount ds) (recordLists ds i)
 
--- the node of the record that lists the name. 01: "Names not listed name node 0."; 02, Job 1: "node 0 stands in only for names that the
--- pattern doesn't use", since a model that doesn't list one that it uses is refused (27)
+-- the node of the record that lists the name. 01: "Names not listed name node 0.", amended by 02's Job 1: "node 0 stands in only for names
+-- that the pattern doesn't use"; a model that doesn't list a name that the pattern uses is refused (27)
 unfoldable pub nodeNamed : List ℕ → ℕ → ℕ
 nodeNamed ds i = pick (isListed ds i) (nodeOfRecord ds (recordOfName ds i)) 0
 

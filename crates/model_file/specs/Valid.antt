@@ -196,7 +196,16 @@ module _ {ds : List ℕ} (ok : ValidModel ds) where
         rw (eqb-true (toOf ds i) v (c .1)) at (e .to-within),
       )
 
--- "Names not listed name node 0."
-pub unlisted : (ds : List ℕ) (i : ℕ) → ((j : ℕ) → j < nameCount ds → nameOf ds j ≡ i → ⊥) → modelFrom ds .named i ≡ 0
-unfolding nodeNamed isListed
-unlisted ds i none = rw (none-below (recordLists ds i) (nameCount ds) (λ j l. ne-eqb _ _ (none j l)))
+-- a name that isn't listed has the node that stands in
+pub unlisted : (ds : List ℕ) (i : ℕ) → isListed ds i ≡ false → modelFrom ds .named i ≡ 0
+unfolding nodeNamed
+unlisted ds i e = rw e
+
+-- a name that is listed is that of a record, and one that isn't of none
+pub listed-found : (ds : List ℕ) (i : ℕ) → isListed ds i ≡ true → (j : ℕ) × (j < nameCount ds) × (nameOf ds j ≡ i)
+unfolding isListed
+listed-found ds i e = let r = some-found (recordLists ds i) (nameCount ds) e in (r .0, r .1, eqb-true _ _ (r .2))
+
+pub unlisted-none : (ds : List ℕ) (i : ℕ) → isListed ds i ≡ false → (j : ℕ) → j < nameCount ds → nameOf ds j ≡ i → ⊥
+unfolding isListed
+unlisted-none ds i e j l = eqb-false _ _ (none-at (recordLists ds i) (nameCount ds) j e l)

@@ -25,7 +25,7 @@ ghost use Prim.Native.Nat.{_+_, _≤_};
 ghost use lib.ListN.{length};
 ghost use lib.Dec.{leb};
 ghost use Rattle.pattern.specs.File.Types.{maxName, maxAxis};
-ghost use Rattle.names.specs.Set.{HasExactly};
+ghost use Rattle.names.specs.Set.{SetOf};
 ghost use Rattle.pattern.specs.Checks.Range.{eachBelow};
 ghost use Rattle.model_file.specs.Layout.{nameCount, edgeCount, nameRecord, edgeRecord, lengthOf};
 ghost use Rattle.model_file.specs.Checks.{countsWrong, headerCheck, repeatsName, nameCheck, edgeCheck, modelCheck, refusalNumber, refusalPlace, checkOf};
@@ -239,7 +239,7 @@ pub fn check(d: &[u8]) -> ModelCheck
 // The names that a file that passed its checks lists.
 pub fn listed_names(d: &[u8]) -> NameSet
     requires { ⌜ ValidModel (now d) ⌝ }
-    ensures { λ r. ⌜ HasExactly (isListed (now (d .entry))) r ⌝ }
+    ensures { λ r. ⌜ SetOf (isListed (now (d .entry))) r ⌝ }
 {
     let m = name_count(d);
     let mut names = NameSet::empty();

@@ -10,19 +10,18 @@ use native.Mathlib.Nat.{not-suc-le-zero, eq-or-lt-of-le}
 use native.Mathlib.Numerals.{add-one}
 use lib.ListN.{length}
 use lib.Dec.{eqb, ltb}
-use borrow.Author.Tests.{eqb-true, eqb-false, ltb-true, ltb-false, lt-ltb, le-leb, eq-eqb, ne-eqb}
+use borrow.Author.Tests.{eqb-true, eqb-false, ltb-true, lt-ltb, le-leb, eq-eqb}
 use Rattle.nodeset.specs.declared.NodeSet.{NodeSet}
-use Rattle.nodeset.specs.Below.{lowest-holds, lowest-first}
 use Rattle.nodeset.specs.Set.{width, has, below, only, insert, has-below, has-only, has-insert}
 use Rattle.nodeset.specs.Members.{HasExactly}
 use Rattle.nodeset.specs.Stored.{tableBytes, setAt, put, put-same, put-other}
 use Rattle.pattern.specs.File.Types.{maxAxis, maxProperty, maxName, maxChannel}
-use Rattle.pattern.specs.Checks.Tests.{and-is-true}
+use Rattle.pattern.specs.Checks.Tests.{and-is-true, turned}
 use Rattle.pattern.specs.Checks.Range.{someBelow}
 use Rattle.evaluation.specs.Tables.{successorsRow, propertyRow, nameRow, nodesRow, modelRows, alikeRow, Tabled, Alike}
 use Rattle.model_file.specs.Layout.{nodeCount, nameCount, edgeCount, valueOn, nameOf, nodeOfRecord, fromOf, axisOf, toOf}
-use Rattle.model_file.specs.Contents.{recordLeads, leadsIn, hasProperty, recordOfName, modelFrom}
-use Rattle.model_file.specs.Valid.{ValidModel, all-named, edge-in, listed, unlisted}
+use Rattle.model_file.specs.Contents.{recordLeads, leadsIn, hasProperty, isListed, modelFrom}
+use Rattle.model_file.specs.Valid.{ValidModel, all-named, edge-in, listed, unlisted, listed-found, unlisted-none}
 
 -- 01, "bit p for property p": the nodes with property p
 abbrev pub WithProperty : List ℕ → ℕ → ℕ → Type 0
@@ -41,13 +40,13 @@ pub record Filled (row : ℕ → ℕ) (Q : ℕ → ℕ → Type 0) (n : ℕ) (xs
   pub rows : (j : ℕ) → j < n → HasExactly (Q j) (setAt ys (row j))
   pub rest : (i : ℕ) → ((j : ℕ) → j < n → i ≡ row j → ⊥) → setAt ys i ≡ setAt xs i
 
--- 01: "Names not listed name node 0.": the row of every name gets node 0
+-- the row of every name gets node 0, which stands in for those that the model doesn't list (01, as 02's Job 1 amends it)
 abbrev pub NamesAtZero : List ℕ → List ℕ → Type 0
 NamesAtZero xs ys = Filled nameRow (λ i u. u ≡ 0) (maxName + 1) xs ys
 
 -- 01, "(name, node)": the row of each listed name gets the node of its record
-abbrev pub NamesListed : List ℕ → List ℕ → List ℕ → Type 0
-NamesListed ds xs ys = Filled (listedRow ds) (λ j u. u ≡ nodeOfRecord ds j) (nameCount ds) xs ys
+abbrev pub NamesAtRecords : List ℕ → List ℕ → List ℕ → Type 0
+NamesAtRecords ds xs ys = Filled (listedRow ds) (λ j u. u ≡ nodeOfRecord ds j) (nameCount ds) xs ys
 
 -- the successors: after k edge records the row of a node on an axis has the nodes to which one of them leads, and the rows behind stay
 pub record Linked (ds : List ℕ) (k : ℕ) (xs ys : List ℕ) : Type 0 where
@@ -113,16 +112,6 @@ module _ (ds : List ℕ) where
           absurd (never (eqb-true _ _ (c .0), eqb-true _ _ (b .0)))
       go false e = e
 
-  -- a member more, told from either side
-  turned : (v w : ℕ) (b : Bool) → eqb v w || b ≡ b || eqb w v
-  turned v w b = go (eqb w v) refl b
-    where
-      go : (t : Bool) → eqb w v ≡ t → (b : Bool) → eqb v w || b ≡ b || eqb w v
-      go true e true = rw (eq-eqb v w (sym (eqb-true w v e)))
-      go true e false = rw (e, eq-eqb v w (sym (eqb-true w v e)))
-      go false e true = rw (ne-eqb v w (λ p. eqb-false w v e (sym p)))
-      go false e false = rw (e, ne-eqb v w (λ p. eqb-false w v e (sym p)))
-
   -- the next record: its node is in the row of its axis and its first node
   pub linked-more : (k : ℕ) (xs ys : List ℕ) → fromOf ds k < width → axisOf ds k ≤ maxAxis → toOf ds k < width
       → tableBytes modelRows ≤ length ys → Linked ds k xs ys → Linked ds (k + 1) xs (linkOf ds k ys)
@@ -170,26 +159,21 @@ module _ {ds : List ℕ} (ok : ValidModel ds) where
   listed-apart n l j g e = ok .names n l .different j g (omega (arith, e))
 
   -- the row of a name after both
-  names-filled : (xs ys zs : List ℕ) → NamesAtZero xs ys → NamesListed ds ys zs → (i : ℕ) → i ≤ maxName → HasExactly (λ u. u ≡ modelFrom ds .named i) (setAt zs (nameRow i))
-  names-filled xs ys zs f g i b = go (ltb (recordOfName ds i) (nameCount ds)) refl
+  names-filled : (xs ys zs : List ℕ) → NamesAtZero xs ys → NamesAtRecords ds ys zs → (i : ℕ) → i ≤ maxName → HasExactly (λ u. u ≡ modelFrom ds .named i) (setAt zs (nameRow i))
+  names-filled xs ys zs f g i b = go (isListed ds i) refl
     where
-      go : (t : Bool) → ltb (recordOfName ds i) (nameCount ds) ≡ t → HasExactly (λ u. u ≡ modelFrom ds .named i) (setAt zs (nameRow i))
+      go : (t : Bool) → isListed ds i ≡ t → HasExactly (λ u. u ≡ modelFrom ds .named i) (setAt zs (nameRow i))
       go true e =
-          let l = ltb-true (recordOfName ds i) (nameCount ds) e in
-          let same = eqb-true (nameOf ds (recordOfName ds i)) i (lowest-holds (nameCount ds) (λ k. eqb (nameOf ds k) i) l) in
-          subst (λ (n : ℕ). HasExactly (λ u. u ≡ modelFrom ds .named n) (setAt zs (nameRow n))) same
-          (subst (λ (w : ℕ). HasExactly (λ u. u ≡ w) (setAt zs (nameRow (nameOf ds (recordOfName ds i))))) (sym (listed ok (recordOfName ds i) l))
-          (g .rows (recordOfName ds i) l))
+          let r = listed-found ds i e in
+          subst (λ (n : ℕ). HasExactly (λ u. u ≡ modelFrom ds .named n) (setAt zs (nameRow n))) (r .2)
+          (subst (λ (w : ℕ). HasExactly (λ u. u ≡ w) (setAt zs (nameRow (nameOf ds (r .0))))) (sym (listed ok (r .0) (r .1))) (g .rows (r .0) (r .1)))
       go false e =
-          let beyond = ltb-false (recordOfName ds i) (nameCount ds) e in
-          let none : (k : ℕ) → k < nameCount ds → nameOf ds k ≡ i → ⊥
-          = λ k l. eqb-false (nameOf ds k) i (lowest-first (nameCount ds) (λ k. eqb (nameOf ds k) i) k (omega (arith, l, beyond))) in
-          subst (λ (w : ℕ). HasExactly (λ u. u ≡ w) (setAt zs (nameRow i))) (sym (unlisted ds i none))
-          (subst (HasExactly (λ u. u ≡ 0)) (sym (g .rest (nameRow i) (λ k l h. none k l (omega (arith, h))))) (f .rows i (omega (arith, b))))
+          subst (λ (w : ℕ). HasExactly (λ u. u ≡ w) (setAt zs (nameRow i))) (sym (unlisted ds i e))
+          (subst (HasExactly (λ u. u ≡ 0)) (sym (g .rest (nameRow i) (λ k l h. unlisted-none ds i e k l (omega (arith, h))))) (f .rows i (omega (arith, b))))
 
   -- the table is whole: the successors, the properties, every name at node 0, the listed names, and all nodes
   pub tabled : (t₀ t₁ t₂ t₃ t₄ : List ℕ) → Linked ds (edgeCount ds) t₀ t₁ → Filled propertyRow (WithProperty ds) (maxProperty + 1) t₁ t₂
-      → NamesAtZero t₂ t₃ → NamesListed ds t₃ t₄ → tableBytes modelRows ≤ length t₄ → Tabled (modelFrom ds) (put t₄ nodesRow (below (nodeCount ds)))
+      → NamesAtZero t₂ t₃ → NamesAtRecords ds t₃ t₄ → tableBytes modelRows ≤ length t₄ → Tabled (modelFrom ds) (put t₄ nodesRow (below (nodeCount ds)))
   unfolding leadsIn
   tabled t₀ t₁ t₂ t₃ t₄ links props firsts lists l =
       record {

@@ -35,7 +35,7 @@ ghost use Rattle.evaluation.specs.Standing.{areaBytes};
 ghost use Rattle.model_file.specs.Layout.{nodeCount, edgeCount, valueOn};
 ghost use Rattle.model_file.specs.Contents.{hasProperty, modelFrom};
 ghost use Rattle.model_file.specs.Valid.{ValidModel};
-ghost use Rattle.model_tables.specs.Tables.{WithProperty, AlikeTo, linkOf, Filled, NamesAtZero, NamesListed, Linked};
+ghost use Rattle.model_tables.specs.Tables.{WithProperty, AlikeTo, linkOf, Filled, NamesAtZero, NamesAtRecords, Linked};
 
 // The nodes that have property p.
 fn property_set(d: &[u8], p: u8) -> NodeSet
@@ -84,7 +84,7 @@ fn fill_names(table: &mut [u8])
 fn list_names(d: &[u8], table: &mut [u8])
     requires { ⌜ ValidModel (now d) ⌝ }
     requires { ⌜ tableBytes modelRows ≤ length (now table) ⌝ }
-    ensures { λ r. ⌜ NamesListed (now (d .entry)) (now (table .entry)) (now (table .exit)) ⌝ }
+    ensures { λ r. ⌜ NamesAtRecords (now (d .entry)) (now (table .entry)) (now (table .exit)) ⌝ }
 {
     let m = name_count(d);
     let mut j = 0;

@@ -2,7 +2,7 @@
 -- the names; the laws, `has-..`, say what each set has, and the rest of the program rests on them alone.
 -- Assumes nothing.
 use mathlib.Core.Path.{_≡_, refl, sym, _∙_, ap}
-use mathlib.Core.Bool.{Bool, true, false, not, _&&_, _||_, or-true, or-false}
+use mathlib.Core.Bool.{Bool, true, false, not, _&&_, _||_}
 use Prim.Native.Nat.{ℕ, _+_, _-_, _≤_, _<_}
 use native.Mathlib.Omega.{arith}
 use lib.Dec.{eqb, ltb}
@@ -11,6 +11,7 @@ use Rattle.wire.specs.Choice.{pick}
 use Rattle.nodeset.specs.Below.{lowestBelow, lowest-same, lowest-wider, lowest-first, lowest-holds, lowest-past}
 use Rattle.nodeset.specs.Set as half
 use Rattle.nodeset.specs.Set.{width}
+use Rattle.pattern.specs.Checks.Tests.{turned}
 use Rattle.pattern.specs.File.Types.{maxName}
 use Rattle.names.specs.declared.NameSet.{NameSet}
 
@@ -18,9 +19,9 @@ use Rattle.names.specs.declared.NameSet.{NameSet}
 unfoldable pub has : NameSet → ℕ → Bool
 has s i = pick (ltb i width) (half.has (s .low) i) (half.has (s .high) (i - width))
 
--- the set has exactly the names that pass the test
-abbrev pub HasExactly : (ℕ → Bool) → NameSet → Type 0
-HasExactly test s = (i : ℕ) → has s i ≡ test i
+-- it is the set of the names that pass the test
+abbrev pub SetOf : (ℕ → Bool) → NameSet → Type 0
+SetOf test s = (i : ℕ) → has s i ≡ test i
 
 -- its lowest name, one above 01's last name if it has none
 abbrev pub lowestOf : NameSet → ℕ
@@ -66,17 +67,9 @@ same-less i j l m = go (eqb j i) refl
     go true e = eq-eqb (j - width) (i - width) (ap (λ (k : ℕ). k - width) (eqb-true j i e))
     go false e = ne-eqb (j - width) (i - width) (λ d. eqb-false j i e (omega arith))
 
--- which of two tests stands first, and which of two numbers, doesn't matter
-turned : (i j : ℕ) (t : Bool) → eqb j i || t ≡ t || eqb i j
-turned i j t = go (eqb i j) refl
-  where
-    go : (b : Bool) → eqb i j ≡ b → eqb j i || t ≡ t || eqb i j
-    go true e = rw (e, eq-eqb j i (sym (eqb-true i j e))) (sym (or-true t))
-    go false e = rw (e, ne-eqb j i (λ d. eqb-false i j e (sym d))) (sym (or-false t))
-
 pub has-insert : (s : NameSet) (i j : ℕ) → i ≤ maxName → has (insert s i) j ≡ has s j || eqb i j
 unfolding has insert
-has-insert s i j l = go (ltb i width) (ltb j width) refl refl ∙ turned i j (has s j)
+has-insert s i j l = go (ltb i width) (ltb j width) refl refl ∙ turned j i (has s j)
   where
     go : (a b : Bool) → ltb i width ≡ a → ltb j width ≡ b → has (insert s i) j ≡ eqb j i || has s j
     go true true e f = rw (e, f) (half.has-insert (s .low) i j (ltb-true i width e))

@@ -1,15 +1,15 @@
 // Sets of names, and the set of the names that a pattern uses.
 use nodeset::NodeSet;
 use pattern::entry::Entry;
-use pattern::names::holds_name;
+use pattern::names::bears_name;
 ghost use mathlib.Core.Path.{_≡_};
 ghost use mathlib.Core.Bool.{true, _||_};
 ghost use Prim.Native.Nat.{_≤_};
 ghost use Rattle.pattern.specs.Checks.Finding.{found};
 ghost use Rattle.pattern.specs.File.Types.{maxName};
 ghost use Rattle.pattern.specs.File.Reading.{readingOf};
-ghost use Rattle.pattern.specs.Meaning.Names.{holdsName, hasName, usesName};
-ghost use Rattle.names.specs.Set.{has, HasExactly, lowestOf, noName, insert, minus};
+ghost use Rattle.pattern.specs.Meaning.Names.{bearsName, hasName, usesName};
+ghost use Rattle.names.specs.Set.{has, SetOf, lowestOf, noName, insert, minus};
 
 // A set of names, in two halves: those below NodeSet::WIDTH as they are, the others less NodeSet::WIDTH.
 pub struct NameSet {
@@ -72,11 +72,11 @@ impl NameSet {
 
 // The set, and the name of an entry that has one.
 fn with_name_of(names: NameSet, e: Entry) -> NameSet
-    requires { ⌜ (holdsName (e .kind) ≡ true → e .x ≤ maxName) ⌝ }
-    ensures { λ r. ⌜ HasExactly (λ i. has names i || hasName (e .kind) (e .x) i) r ⌝ }
+    requires { ⌜ (bearsName (e .kind) ≡ true → e .x ≤ maxName) ⌝ }
+    ensures { λ r. ⌜ SetOf (λ i. has names i || hasName (e .kind) (e .x) i) r ⌝ }
 {
     let kind = e.kind;
-    if holds_name(kind) {
+    if bears_name(kind) {
         return names.insert(e.x);
     }
     names
@@ -86,7 +86,7 @@ fn with_name_of(names: NameSet, e: Entry) -> NameSet
 // not.
 pub fn used_names(p: &[u8], n: u8) -> NameSet
     requires { ⌜ readingOf (now p) ≡ found n ⌝ }
-    ensures { λ r. ⌜ HasExactly (usesName (now (p .entry))) r ⌝ }
+    ensures { λ r. ⌜ SetOf (usesName (now (p .entry))) r ⌝ }
 {
     let mut names = NameSet::empty();
     let mut k = 0;

@@ -5,11 +5,11 @@ use crate::types::Name;
 ghost use mathlib.Core.Path.{_≡_};
 ghost use Rattle.pattern.specs.Checks.Finding.{found};
 ghost use Rattle.pattern.specs.File.Reading.{readingOf};
-ghost use Rattle.pattern.specs.Meaning.Names.{holdsName, hasName, usesName};
+ghost use Rattle.pattern.specs.Meaning.Names.{bearsName, hasName, usesName};
 
 // Whether an entry of the kind has a name: its field x.
-pub fn holds_name(kind: Kind) -> bool
-    ensures { λ r. ⌜ r ≡ holdsName kind ⌝ }
+pub fn bears_name(kind: Kind) -> bool
+    ensures { λ r. ⌜ r ≡ bearsName kind ⌝ }
 {
     if kind.is(Kind::Name) {
         return true;
@@ -22,7 +22,7 @@ fn has_name(e: Entry, name: Name) -> bool
     ensures { λ r. ⌜ r ≡ hasName (e .kind) (e .x) (name .number) ⌝ }
 {
     let kind = e.kind;
-    if holds_name(kind) {
+    if bears_name(kind) {
         return e.x == name.number;
     }
     false

@@ -1,4 +1,4 @@
--- 01's bench readings A to J, and readings of 02's jobs, in one list, shown of the definitions by one result: what the program prints, what
+-- 01's bench readings A to J, and examples of 02's jobs, in one list, shown of the definitions by one result: what the program prints, what
 -- reading a pattern gives, and what judging every model gives.
 -- Assumes nothing.
 use mathlib.Core.Path.{_≡_, refl, sym, _∙_, ap, subst}

@@ -15,9 +15,10 @@ pub fn guess(pattern: &Pattern, effort: Effort) -> Option<Model> {
     (0..effort.budget).map(|_| any_model(pattern, &axes, &mut random)).find(|model| meets(pattern, model))
 }
 
-/// Whether judging finds the pattern met by a model that lists its names.
+/// Whether judging the model finds the pattern met.
 pub fn meets(pattern: &Pattern, model: &Model) -> bool {
-    matches!(model::finding(pattern, model), Finding::Met { .. })
+    model::check_names(pattern, model).is_ok()
+        && matches!(model::finding(pattern, model), Finding::Met { .. })
 }
 
 fn leads_by(pattern: &Pattern, axis: u8) -> bool {

@@ -5,11 +5,13 @@ use crate::generate::input::Never;
 use oracle::finding::Finding;
 use oracle::pattern;
 
-pub const NAMES: [Limit; 12] = [
+pub const NAMES: [Limit; 14] = [
     ("met, names used", |it| matches!(it.finding, Finding::Met { .. }) && it.used() != 0),
     ("unmet, names used", |it| it.finding == Finding::Unmet && it.used() != 0),
     ("no name used and none listed, found", |it| it.found() && it.used() | it.listed() == 0),
     ("a name listed beside those used, found", |it| it.found() && it.used() != 0 && it.used() != it.listed()),
+    ("all 128 names used, found", |it| it.found() && it.used() == u128::MAX),
+    ("one of 128 names used refused 27", |it| it.refused(27) && it.used() == u128::MAX),
     ("name by itself refused 27", |it| it.missing_in(|entry| entry[0] == 2)),
     ("name of jumps alone refused 27", |it| it.missing_in(|entry| entry[0] == 9)),
     ("name that the root doesn't reach refused 27", |it| it.missing_unreached()),

@@ -153,7 +153,7 @@ impl Tally {
         self.distinct.extend(&other.distinct);
     }
 
-    /// How many inputs show the limit, or what it is of names.
+    /// How many inputs show the limit or the situation of names.
     pub fn shown(&self, limit: &str) -> u64 {
         self.limits.get(limit).copied().unwrap_or_default()
     }

@@ -1,6 +1,6 @@
 //! Random patterns that reading accepts.
 
-use oracle::pattern::{Comparison, Entry, Path, Pattern};
+use oracle::pattern::{Comparison, Entry, MAX_NAME, Path, Pattern};
 use oracle::random::Random;
 
 /// How many different properties, names, axes and channels a pattern or a model draws from. Few make
@@ -23,11 +23,12 @@ impl Vocabulary {
     }
 }
 
-/// A pattern of a random size: mostly of a few entries, seldom of up to 255.
+/// A pattern of a random size: mostly of a few entries, seldom of up to 255 or with all names.
 pub fn random(random: &mut Random) -> Pattern {
     let entries = match random.below(200) {
         0 => random.between(100, 255),
-        1..10 => random.between(20, 60),
+        1 => return of_all_names(random),
+        2..10 => random.between(20, 60),
         10..80 => random.between(1, 5),
         _ => random.between(3, 16),
     };
@@ -36,18 +37,21 @@ pub fn random(random: &mut Random) -> Pattern {
 
 /// A pattern of so many entries.
 pub fn of_size(random: &mut Random, entries: usize) -> Pattern {
-    let vocabulary = Vocabulary::random(random);
-    let mut draft = Draft { vocabulary, entries: Vec::new(), nodes: Vec::new(), paths: Vec::new() };
-    while draft.entries.len() < entries {
-        let last = draft.entries.len() + 1 == entries;
-        let path = !last && random.once_in(3);
-        let entry = if path { draft.path_entry(random) } else { draft.node_entry(random) };
-        if !draft.entries.contains(&entry) {
-            if path { &mut draft.paths } else { &mut draft.nodes }.push(draft.entries.len());
-            draft.entries.push(entry);
+    Draft::new(Vocabulary::random(random)).grown(random, entries)
+}
+
+/// A pattern that uses every name, some of them in jumps.
+fn of_all_names(random: &mut Random) -> Pattern {
+    let mut draft = Draft::new(Vocabulary::ALL);
+    for name in 0..=MAX_NAME {
+        if random.once_in(2) {
+            draft.add_path(Entry::Jump(name, draft.rest(random)));
+        } else {
+            draft.add_node(Entry::Name(name));
         }
     }
-    Pattern { entries: draft.entries }
+    let entries = draft.entries.len() + random.between(1, 8);
+    draft.grown(random, entries)
 }
 
 /// A pattern in the making, with the numbers of its node entries and of its path entries.
@@ -59,6 +63,39 @@ struct Draft {
 }
 
 impl Draft {
+    fn new(vocabulary: Vocabulary) -> Draft {
+        Draft { vocabulary, entries: Vec::new(), nodes: Vec::new(), paths: Vec::new() }
+    }
+
+    /// The pattern, when different entries have been added up to so many, the last a node.
+    fn grown(mut self, random: &mut Random, entries: usize) -> Pattern {
+        while self.entries.len() < entries {
+            let last = self.entries.len() + 1 == entries;
+            if !last && random.once_in(3) {
+                self.add_path(self.path_entry(random));
+            } else {
+                self.add_node(self.node_entry(random));
+            }
+        }
+        Pattern { entries: self.entries }
+    }
+
+    /// Adds a path, if no entry equals it.
+    fn add_path(&mut self, entry: Entry) {
+        if !self.entries.contains(&entry) {
+            self.paths.push(self.entries.len());
+            self.entries.push(entry);
+        }
+    }
+
+    /// Adds a node, if no entry equals it.
+    fn add_node(&mut self, entry: Entry) {
+        if !self.entries.contains(&entry) {
+            self.nodes.push(self.entries.len());
+            self.entries.push(entry);
+        }
+    }
+
     fn node_entry(&self, random: &mut Random) -> Entry {
         let kinds = if self.nodes.is_empty() { 4 } else { 10 };
         match random.below(kinds) {

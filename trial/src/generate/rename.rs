@@ -47,7 +47,7 @@ impl Renaming {
         }
     }
 
-    /// Renames in a valid model file. A name that the pattern uses is listed afterwards if it was before.
+    /// Renames in a valid model file. A name that the pattern uses is listed afterwards just if it was before.
     pub fn model(self, file: &mut [u8]) {
         let (nodes, names) = (file[5] as usize, file[6] as usize);
         let (node_records, rest) = file[9..].split_at_mut(12 * nodes);

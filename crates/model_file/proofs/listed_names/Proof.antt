@@ -9,14 +9,14 @@ use borrow.Author.Needs.{needs}
 use Rattle.pattern.specs.File.Types.{maxName}
 use Rattle.pattern.specs.Checks.Range.{someBelow, some-next}
 use Rattle.names.specs.declared.NameSet.{NameSet}
-use Rattle.names.specs.Set.{HasExactly, has, has-none, has-insert}
+use Rattle.names.specs.Set.{SetOf, has, has-none, has-insert}
 use Rattle.model_file.specs.Layout.{nameCount}
 use Rattle.model_file.specs.Contents.{recordLists, isListed}
 use Rattle.model_file.proofs.listed_names.Statement.{statement}
 use Rattle.model_file.proofs.listed_names.Tie as tie
 
 abbrev Inv-loop : tie.InvT-loop
-Inv-loop d m names₀ j₀ names j = (j ≤ m) × HasExactly (λ i. someBelow j (recordLists d i)) names
+Inv-loop d m names₀ j₀ names j = (j ≤ m) × SetOf (λ i. someBelow j (recordLists d i)) names
 
 abbrev μ-loop : tie.MeasureT-loop
 μ-loop d m names₀ j₀ names j = m - j

@@ -10,13 +10,13 @@ use Rattle.pattern.specs.Checks.Range.{someBelow, some-next}
 use Rattle.pattern.specs.File.Types.{maxName}
 use Rattle.pattern.specs.File.Reading.{countOf}
 use Rattle.pattern.specs.File.Valid.{Valid, valid}
-use Rattle.pattern.specs.Meaning.Names.{holdsName, hasName, entryUses, usesName, name-at}
-use Rattle.names.specs.Set.{HasExactly, has, has-none}
+use Rattle.pattern.specs.Meaning.Names.{bearsName, hasName, entryUses, usesName, name-at}
+use Rattle.names.specs.Set.{SetOf, has, has-none}
 use Rattle.names.proofs.used_names.Statement.{statement}
 use Rattle.names.proofs.used_names.Tie as tie
 
 abbrev Inv-loop : tie.InvT-loop
-Inv-loop p n names₀ k₀ names k = (k ≤ n) × HasExactly (λ i. someBelow k (entryUses p i)) names
+Inv-loop p n names₀ k₀ names k = (k ≤ n) × SetOf (λ i. someBelow k (entryUses p i)) names
 
 abbrev μ-loop : tie.MeasureT-loop
 μ-loop p n names₀ k₀ names k = n - k
@@ -37,7 +37,7 @@ at-requires c κs = let v = ok (c .before .before .before .before) in omega (ari
 with-name-of-requires : tie.Need-with-name-of-requires Inv-loop μ-loop
 with-name-of-requires c κs =
     let l = c .before .before in
-    subst (λ (e : Entry). holdsName (e .kind) ≡ true → e .x ≤ maxName) (sym (c .at .ensures))
+    subst (λ (e : Entry). bearsName (e .kind) ≡ true → e .x ≤ maxName) (sym (c .at .ensures))
     (name-at (ok (l .before .before .before)) (l .loop .k) (c .before .loop-test .taken))
 
 add-k : tie.Need-add-k Inv-loop μ-loop

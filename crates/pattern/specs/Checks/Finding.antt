@@ -1,4 +1,4 @@
--- Findings and refusals by document 01's numbers, and checks in a chain.
+-- Findings and refusals by the documents' numbers, and checks in a chain.
 -- Assumes nothing.
 use mathlib.Core.Path.{_≡_, refl}
 use mathlib.Core.Bool.{Bool, true, false}

@@ -25,12 +25,12 @@ use Rattle.pattern.specs.File.Valid.{Valid, EarlierPath, Within, within-
 use Rattle.pattern.specs.Meaning.Expression.{nodeExpression, pathExpression, nodeAt, pathAt, node-at, path-at, end-at}
 
 -- an entry of this kind has a name: it is "of kind 2 or 9"
-abbrev pub holdsName : Kind → Bool
-holdsName κ = sameKind κ Kind.Name || sameKind κ Kind.Jump
+abbrev pub bearsName : Kind → Bool
+bearsName κ = sameKind κ Kind.Name || sameKind κ Kind.Jump
 
 -- an entry of this kind with x for its first field has the name i
 abbrev pub hasName : Kind → ℕ → ℕ → Bool
-hasName κ x i = holdsName κ && eqb x i
+hasName κ x i = bearsName κ && eqb x i
 
 -- entry k has the name
 abbrev pub entryUses : List ℕ → ℕ → ℕ → Bool
@@ -79,7 +79,7 @@ abbrev pub Reference : ℕ → ℕ → Type 0
 Reference n v = (v ≡ endOfPath) ⊎ (v < n)
 
 -- a field that is a name is in range where the entry's fields are
-name-within : (κ : Kind) {x : ℕ} → Within (formOf κ .x) x → holdsName κ ≡ true → x ≤ maxName
+name-within : (κ : Kind) {x : ℕ} → Within (formOf κ .x) x → bearsName κ ≡ true → x ≤ maxName
 name-within Kind.Property w h = absurd (false≢true h)
 name-within Kind.Name w h = w
 name-within Kind.Not w h = absurd (false≢true h)
@@ -94,7 +94,7 @@ name-within Kind.Fork w h = absurd (false≢true h)
 name-within Kind.Unknown w h = absurd (false≢true h)
 
 -- the name of an entry that has one is in range
-pub name-at : {bs : List ℕ} {n : ℕ} → Valid bs n → (k : ℕ) → k < n → holdsName (entryAt bs k .kind) ≡ true → entryAt bs k .x ≤ maxName
+pub name-at : {bs : List ℕ} {n : ℕ} → Valid bs n → (k : ℕ) → k < n → bearsName (entryAt bs k .kind) ≡ true → entryAt bs k .x ≤ maxName
 name-at {bs} ok k l = name-within (entryAt bs k .kind) (within-at ok k l .0)
 
 module _ {bs : List ℕ} {n : ℕ} (ok : Valid bs n) (i : ℕ) where
@@ -108,7 +108,7 @@ module _ {bs : List ℕ} {n : ℕ} (ok : Valid bs n) (i : ℕ) where
   used-in-range h =
       let r = some-found (entryUses bs i) (countOf bs) h in
       let e = entryAt bs (r .0) in
-      let b = and-is-true (holdsName (e .kind)) (eqb (e .x) i) (r .2) in
+      let b = and-is-true (bearsName (e .kind)) (eqb (e .x) i) (r .2) in
       rw (eqb-true (e .x) i (b .1)) at (name-at ok (r .0) (subst (λ (m : ℕ). r .0 < m) (ok .count-is) (r .1)) (b .0))
 
   pub unused : ((k : ℕ) → k < n → entryUses bs i k ≡ false) → usesName bs i ≡ false

@@ -23,14 +23,13 @@ pub fn refused(refusal: Refusal) -> String {
         13 => format!(", name record {place}"),
         14 => format!(", edge record {place}"),
         19..=25 => format!(", step {place}"),
-        27 => format!(", name {place}"),
         _ => String::new(),
     };
     format!("{}{where_at}: {}", Finding::Refused(refusal), MEANINGS[number as usize - 1])
 }
 
-/// By refusal number, from 1: what documents 01 and 02 say of it.
-const MEANINGS: [&str; 27] = [
+/// By refusal number, from 1 to 26: what document 01 says of it.
+const MEANINGS: [&str; 26] = [
     "the pattern file has under 6 bytes or doesn't begin with PAT",
     "the pattern file's version isn't 1",
     "the number of entries is zero, or the pattern file's length isn't 6 + 4 for each",
@@ -57,5 +56,4 @@ const MEANINGS: [&str; 27] = [
     "it forks while 64 right sides already wait",
     "all branches are already closed",
     "the steps are at an end and a branch is still open",
-    "the pattern uses it and the model doesn't list it",
 ];

@@ -59,12 +59,12 @@ model-passed : (c : tie.After-enum-told)
     → modelCheck (c .before .before .before .before .before .before .before .before .before .before .args .d .now) ≡ passes
 model-passed c = sym (c .before .before .check .ensures) ∙ ap checkOf (c .enum-told .given .1)
 
-check-names-requires : tie.Need-check-names-requires
-check-names-requires c κs = (pattern-read (c .before .before .before .before .before), model-valid _ (model-passed c))
+check-listed-requires : tie.Need-check-listed-requires
+check-listed-requires c κs = (pattern-read (c .before .before .before .before .before), model-valid _ (model-passed c))
 
 returns-4 : tie.Need-returns-4
 returns-4 c = let k = c .before in
-    c .check-names .ensures
+    c .check-listed .ensures
     ∙ sym (names-decide _ _ _ (pattern-passed (k .before .before .before .before .before)) (k .before .before .before .if1 .left) (model-passed k))
 
 pub check-all-spec : {M : Type 1} → statement M
@@ -80,5 +80,5 @@ check-all-spec =
     enum-known-refusal-2
     returns-3
     enum-told
-    check-names-requires
+    check-listed-requires
     returns-4)

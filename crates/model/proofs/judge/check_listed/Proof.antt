@@ -1,4 +1,4 @@
--- `model::judge::check_names` meets its contract: its lowest name is the lowest that is used and not listed.
+-- `model::judge::check_listed` meets its contract: its lowest name is the lowest that is used and not listed.
 -- Assumes nothing.
 use borrow.Author.Needs.{needs}
 use mathlib.Core.Path.{_≡_, sym, _∙_, ap, ap₂}
@@ -11,8 +11,8 @@ use Rattle.pattern.specs.File.Types.{maxName}
 use Rattle.names.specs.declared.NameSet.{NameSet}
 use Rattle.names.specs.Set.{has, has-minus}
 use Rattle.model.specs.Judging.{isMissing, lowest-refused, lowest-passes}
-use Rattle.model.proofs.judge.check_names.Statement.{statement}
-use Rattle.model.proofs.judge.check_names.Tie as tie
+use Rattle.model.proofs.judge.check_listed.Statement.{statement}
+use Rattle.model.proofs.judge.check_listed.Tie as tie
 
 used-names-requires : tie.Need-used-names-requires
 used-names-requires c κs = c .before .before .pre .0
@@ -40,11 +40,11 @@ lowest-is c =
 
 returns : tie.Need-returns
 returns c = let e = lowest-is (c .before) in
-    ap (refuses 27) e ∙ sym (lowest-refused _ _ (rw e at (c .if1 .taken)))
+    ap (refuses 27) e ∙ sym (lowest-refused _ _ (omega (arith, e, c .if1 .taken)))
 
 returns-2 : tie.Need-returns-2
 returns-2 c = sym (lowest-passes _ _ (omega (arith, lowest-is (c .before), c .if1 .left)))
 
-pub check-names-spec : {M : Type 1} → statement M
-check-names-spec =
+pub check-listed-spec : {M : Type 1} → statement M
+check-listed-spec =
     tie.close (tie.spec used-names-requires listed-names-requires minus-requires lowest-requires returns returns-2)
