@@ -166,7 +166,7 @@ module _ (ds : List ℕ) where
   unfolding file.modelCheck
   model-narrow = then-narrow (file.headerCheck ds) _ model-header-narrow (λ e. records-narrow (file-valid.header-passes ds e))
 
--- nor is a name's number above the last
+-- the place of 27 is the number of a name
 names-narrow : (bs ds : List ℕ) → NarrowCheck (model.namesCheck bs ds)
 unfolding model.namesCheck
 names-narrow bs ds =
