@@ -8,6 +8,7 @@ use branch_end::with_fork;
 use lines::line::HasLine;
 use lines::line::Line;
 use lines::store;
+use names::NameSet;
 use pattern::types::Name;
 use pattern::types::Sign;
 use rules::conclusion::Conclusion;
@@ -24,7 +25,9 @@ ghost use Prim.Native.Nat.{ℕ, _+_, _*_, _≤_, _<_};
 ghost use lib.ListN.{length, replicate};
 ghost use Rattle.wire.specs.Cleared.{cleared};
 ghost use Rattle.pattern.specs.Checks.Finding.{found};
-ghost use Rattle.pattern.specs.File.Reading.{readingOf};
+ghost use Rattle.pattern.specs.File.Reading.{countOf, readingOf};
+ghost use Rattle.pattern.specs.Meaning.Names.{usesName};
+ghost use Rattle.names.specs.Set.{SetOf};
 ghost use Rattle.lines.specs.Stored.{putLine};
 ghost use Rattle.branch_walk.specs.declared.walk.Advance.{Advance};
 ghost use Rattle.rules.specs.Sides.{sides};
@@ -105,13 +108,22 @@ fn extend(area: &mut [u8], c: Conclusion, k: u16, len: u16) -> Advance
 }
 
 // Checks step k on a branch of so many lines, and adds its lines.
-fn take_step(p: &[u8], n: u8, steps: &[u8], s: u16, area: &mut [u8], k: u16, len: u16) -> Advance
-    requires { ⌜ WalkLent (now p) n (now steps) s (now area) k len ⌝ }
+fn take_step(
+    p: &[u8],
+    used: NameSet,
+    steps: &[u8],
+    s: u16,
+    area: &mut [u8],
+    k: u16,
+    len: u16,
+) -> Advance
+    requires { ⌜ WalkLent (now p) (countOf (now p)) (now steps) s (now area) k len ⌝ }
+    requires { ⌜ SetOf (usesName (now p)) used ⌝ }
     requires { ⌜ k < s ⌝ }
-    ensures { λ r. ⌜ Advances (now (p .entry)) n (now (steps .entry)) s (now (area .entry)) k len r (now (area .exit)) ⌝ }
+    ensures { λ r. ⌜ Advances (now (p .entry)) (countOf (now (p .entry))) (now (steps .entry)) s (now (area .entry)) k len r (now (area .exit)) ⌝ }
 {
     let step = Step::at(steps, k as usize);
-    let answer = take(p, n, area, len as usize, step, k);
+    let answer = take(p, used, area, len as usize, step, k);
     match answer {
         StepAnswer::Refused(refusal) => {
             Advance::Stopped(Stop::Refused(WalkRefusal::Step(refusal)))
@@ -127,14 +139,23 @@ fn take_step(p: &[u8], n: u8, steps: &[u8], s: u16, area: &mut [u8], k: u16, len
 
 // Checks the steps from step k on that add lines to a branch of so many lines, up to the clash or fork
 // or refusal that ends them.
-fn straight(p: &[u8], n: u8, steps: &[u8], s: u16, area: &mut [u8], k: u16, len: u16) -> Stop
-    requires { ⌜ WalkLent (now p) n (now steps) s (now area) k len ⌝ }
-    ensures { λ r. ⌜ Stops (now (p .entry)) n (now (steps .entry)) s (now (area .entry)) k len r (now (area .exit)) ⌝ }
+fn straight(
+    p: &[u8],
+    used: NameSet,
+    steps: &[u8],
+    s: u16,
+    area: &mut [u8],
+    k: u16,
+    len: u16,
+) -> Stop
+    requires { ⌜ WalkLent (now p) (countOf (now p)) (now steps) s (now area) k len ⌝ }
+    requires { ⌜ SetOf (usesName (now p)) used ⌝ }
+    ensures { λ r. ⌜ Stops (now (p .entry)) (countOf (now (p .entry))) (now (steps .entry)) s (now (area .entry)) k len r (now (area .exit)) ⌝ }
 {
     let mut i = k;
     let mut lines = len;
     while i < s {
-        match take_step(p, n, steps, s, area, i, lines) {
+        match take_step(p, used, steps, s, area, i, lines) {
             Advance::Stopped(stop) => {
                 return stop;
             }
@@ -151,7 +172,7 @@ fn straight(p: &[u8], n: u8, steps: &[u8], s: u16, area: &mut [u8], k: u16, len:
 // or at a fork over the left side and then over the right side. The number of unread steps falls.
 fn walk(
     p: &[u8],
-    n: u8,
+    used: NameSet,
     steps: &[u8],
     s: u16,
     area: &mut [u8],
@@ -160,12 +181,13 @@ fn walk(
     waiting: u8,
     counts: Counts,
 ) -> BranchEnd
-    requires { ⌜ WalkLent (now p) n (now steps) s (now area) k len ⌝ }
+    requires { ⌜ WalkLent (now p) (countOf (now p)) (now steps) s (now area) k len ⌝ }
+    requires { ⌜ SetOf (usesName (now p)) used ⌝ }
     requires { ⌜ waiting ≤ maxWaiting ⌝ }
     requires { ⌜ Bounded k counts ⌝ }
     ensures { λ r. ⌜ Walks (now (p .entry)) (now (steps .entry)) s (now (area .entry)) k len waiting counts r (now (area .exit)) ⌝ }
 {
-    match straight(p, n, steps, s, area, k, len) {
+    match straight(p, used, steps, s, area, k, len) {
         Stop::Refused(refusal) => BranchEnd::Refused(refusal),
         Stop::Clash(at, lines) => BranchEnd::Closed(at + 1, with_clash(counts, lines)),
         Stop::Fork(at, lines, left, right) => {
@@ -173,30 +195,32 @@ fn walk(
                 return BranchEnd::Refused(WalkRefusal::Waiting(at));
             }
             store(area, lines as usize, left);
-            let forked = with_fork(counts);
-            let first = walk(p, n, steps, s, area, at + 1, lines + 1, waiting + 1, forked);
+            let sum = with_fork(counts);
+            let first = walk(p, used, steps, s, area, at + 1, lines + 1, waiting + 1, sum);
             match first {
                 BranchEnd::Refused(refusal) => BranchEnd::Refused(refusal),
                 BranchEnd::Closed(next, counted) => {
                     store(area, lines as usize, right);
-                    walk(p, n, steps, s, area, next, lines + 1, waiting, counted)
+                    walk(p, used, steps, s, area, next, lines + 1, waiting, counted)
                 }
             }
         }
     }
 }
 
-// Checks the s steps of a tableau with this start name, for a pattern of n entries that was read. The
-// area is left zero.
+// Checks the s steps of a tableau with this start name, for a pattern of n entries that was read and
+// uses these names. The area is left zero.
 pub fn check_steps(
     p: &[u8],
     n: u8,
+    used: NameSet,
     steps: &[u8],
     area: &mut [u8],
     start: Name,
     s: u16,
 ) -> TableauFinding
     requires { ⌜ readingOf (now p) ≡ found n ⌝ }
+    requires { ⌜ SetOf (usesName (now p)) used ⌝ }
     requires { ⌜ (length (now steps) ≡ 6 * s) × (s ≤ maxSteps) ⌝ }
     requires { ⌜ length (now area) ≡ areaNeed ⌝ }
     ensures finding { λ r. ⌜ findingOf r ≡ stepsFound (now (p .entry)) n (now (steps .entry)) start s ⌝ }
@@ -214,7 +238,7 @@ pub fn check_steps(
         forks: 0,
         most: 0,
     };
-    let end = walk(p, n, steps, s, area, 0, 1, 0, none);
+    let end = walk(p, used, steps, s, area, 0, 1, 0, none);
     clear(area);
     finish(end, s)
 }

@@ -1,15 +1,15 @@
 -- Lines in lent bytes, eight a line.
 -- Assumes nothing.
 use mathlib.Core.Path.{_≡_, refl, sym, ap, _∙_}
-use mathlib.Core.Bool.{false, not, _&&_, _||_, or-false}
+use mathlib.Core.Bool.{Bool, true, false, not, _||_, or-false}
 use mathlib.Core.List.{List, [], _∷_, _++_}
 use Prim.Native.Nat.{ℕ, zero, suc, _+_, _-_, _*_, _≤_, _<_}
 use native.Mathlib.Nat.{not-suc-le-zero, le-of-suc-le-suc, le-refl, add-zero, zero-add}
 use native.Mathlib.Omega.{arith}
 use native.Mathlib.Numerals.{add-one}
-use borrow.Author.Tests.{lt-ltb}
-use lib.Dec.{eqb, ltb}
+use lib.Dec.{eqb}
 use lib.ListN.{length, getD}
+use Rattle.wire.specs.Choice.{pick}
 use Rattle.wire.specs.Blocks.{putFrom, length-from, from-out, from-in, apart}
 use Rattle.pattern.specs.declared.types.Channel.{Channel}
 use Rattle.pattern.specs.declared.types.Sign.{Sign}
@@ -92,20 +92,32 @@ form-beyond (suc zero) b c d e f g h x y z = absurd (y refl)
 form-beyond (suc (suc zero)) b c d e f g h x y z = absurd (z refl)
 form-beyond (suc (suc (suc n))) b c d e f g h x y z = refl
 
--- the names of a line are at bytes 2 and 3, those of a comparison at 4 and 6; a line of the first form has one
-form-has : (n b c d e f g h i : ℕ)
-    → lineHas (lineOfForm n b c d e f g h) i ≡ (ltb 2 n && (eqb e i || eqb g i) || not (ltb 2 n) && (eqb c i || (not (eqb n 0) && eqb d i)))
-form-has zero b c d e f g h i = sym (or-false (eqb c i))
-form-has (suc zero) b c d e f g h i = refl
-form-has (suc (suc zero)) b c d e f g h i = refl
-form-has (suc (suc (suc n))) b c d e f g h i = rw (lt-ltb 2 (suc (suc (suc n))) (omega arith)) (sym (or-false (eqb e i || eqb g i)))
-
-pub line-has : (xs : List ℕ) (k i : ℕ)
-    → lineHas (lineAt xs k) i
-    ≡ (ltb 2 (getD xs (8 * k) 0) && (eqb (getD xs (8 * k + 4) 0) i || eqb (getD xs (8 * k + 6) 0) i)
-    || not (ltb 2 (getD xs (8 * k) 0)) && (eqb (getD xs (8 * k + 2) 0) i || (not (eqb (getD xs (8 * k) 0) 0) && eqb (getD xs (8 * k + 3) 0) i)))
+-- the names of a comparison are at bytes 4 and 6
+pub compared-names : (xs : List ℕ) (k i : ℕ) → 2 < getD xs (8 * k) 0
+    → lineHas (lineAt xs k) i ≡ eqb (getD xs (8 * k + 4) 0) i || eqb (getD xs (8 * k + 6) 0) i
 unfolding lineAt
-line-has xs k i = rw form-has refl
+compared-names xs k i h = rw (form-beyond (getD xs (8 * k) 0) _ _ _ _ _ _ _ (λ e. omega (arith, h, e)) (λ e. omega (arith, h, e)) (λ e. omega (arith, h, e))) refl
+
+two-names : (u t : Bool) → u || t ≡ pick t (u || true) u
+two-names u true = refl
+two-names u false = or-false u
+
+-- those of the other forms at bytes 2 and 3; a line of the first form has one
+form-names : (n b c d e f g h i : ℕ) → n ≤ 2 → lineHas (lineOfForm n b c d e f g h) i ≡ pick (eqb d i) (eqb c i || not (eqb n 0)) (eqb c i)
+form-names zero b c d e f g h i l = one (eqb d i) (eqb c i)
+  where
+    one : (t u : Bool) → u ≡ pick t (u || false) u
+    one true u = sym (or-false u)
+    one false u = refl
+form-names (suc zero) b c d e f g h i l = two-names (eqb c i) (eqb d i)
+form-names (suc (suc zero)) b c d e f g h i l = two-names (eqb c i) (eqb d i)
+form-names (suc (suc (suc n))) b c d e f g h i l = absurd (omega (arith, l))
+
+pub other-names : (xs : List ℕ) (k i : ℕ) → getD xs (8 * k) 0 ≤ 2
+    → lineHas (lineAt xs k) i
+    ≡ pick (eqb (getD xs (8 * k + 3) 0) i) (eqb (getD xs (8 * k + 2) 0) i || not (eqb (getD xs (8 * k) 0) 0)) (eqb (getD xs (8 * k + 2) 0) i)
+unfolding lineAt
+other-names xs k i h = form-names (getD xs (8 * k) 0) _ _ _ _ _ _ _ i h
 
 sign-back : (s : Sign) → signAt (signNumber s) ≡ s
 sign-back Sign.Positive = refl
@@ -220,12 +232,12 @@ push-line xs n l h =
     ) refl
 
 -- "a branch has a name if its first line has it or the rest, asked the same way, has it": no line is left, or the lines from k on
-pub branch-end : (xs : List ℕ) (k n i : ℕ) → k ≡ n → branchHas (linesFrom xs k (n - k)) i ≡ false
+pub branch-end : (xs : List ℕ) (k n i : ℕ) → n ≤ k → branchHas (linesFrom xs k (n - k)) i ≡ false
 unfolding linesFrom branchHas
-branch-end xs k n i e = ap (λ (m : ℕ). branchHas (linesFrom xs k m) i) none
+branch-end xs k n i l = ap (λ (m : ℕ). branchHas (linesFrom xs k m) i) none
   where
     none : n - k ≡ 0
-    none = omega (arith, e)
+    none = omega (arith, l)
 
 pub branch-next : (xs : List ℕ) (k n i : ℕ) → k < n
     → branchHas (linesFrom xs k (n - k)) i ≡ (lineHas (lineAt xs k) i || branchHas (linesFrom xs (k + 1) (n - (k + 1))) i)

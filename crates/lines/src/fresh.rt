@@ -1,40 +1,38 @@
 // Names that are fresh: "not used in the pattern and on no line of the branch".
 use crate::stored::line_has;
-use pattern::names::uses_name;
+use names::NameSet;
 use pattern::types::Name;
 ghost use mathlib.Core.Path.{_≡_};
-ghost use Prim.Native.Nat.{_-_, _*_, _≤_};
+ghost use mathlib.Core.Bool.{not, _||_};
+ghost use Prim.Native.Nat.{_*_, _≤_};
 ghost use lib.ListN.{length};
-ghost use Rattle.pattern.specs.Checks.Finding.{found};
-ghost use Rattle.pattern.specs.File.Reading.{readingOf};
-ghost use Rattle.lines.specs.Lines.{branchHas, isFresh};
+ghost use Rattle.names.specs.Set.{has};
+ghost use Rattle.lines.specs.Lines.{branchHas};
 ghost use Rattle.lines.specs.Stored.{linesFrom};
 
-// Whether one of the lines from this one on, of a branch of so many, has the name: "a branch has a
-// name if its first line has it or the rest, asked the same way, has it". The area is handed on by
-// reference to the slice: so the compiler makes the last call a jump, and the search takes no stack.
-fn branch_has(area: &&[u8], from: usize, len: usize, name: Name) -> bool
-    requires { ⌜ (from ≤ len) × (8 * len ≤ length (now (now area))) ⌝ }
-    ensures { λ r. ⌜ r ≡ branchHas (linesFrom (now (now (area .entry))) from (len - from)) (name .number) ⌝ }
+// Whether a branch of so many lines has the name: "a branch has a name if its first line has it or the
+// rest, asked the same way, has it". The search stops at the first line that has it.
+fn branch_has(area: &[u8], len: usize, name: Name) -> bool
+    requires { ⌜ 8 * len ≤ length (now area) ⌝ }
+    ensures { λ r. ⌜ r ≡ branchHas (linesFrom (now (area .entry)) 0 len) (name .number) ⌝ }
 {
-    if from == len {
-        return false;
+    let mut k = 0;
+    while k < len {
+        if line_has(area, k, name) {
+            return true;
+        }
+        k += 1;
     }
-    if line_has(*area, from, name) {
-        return true;
-    }
-    branch_has(area, from + 1, len, name)
+    false
 }
 
-// Whether the name is fresh on a branch of so many lines, for a pattern of n entries.
-pub fn is_fresh(p: &[u8], n: u8, area: &[u8], len: usize, name: Name) -> bool
-    requires { ⌜ readingOf (now p) ≡ found n ⌝ }
+// Whether the name is fresh on a branch of so many lines, for a pattern that uses these names.
+pub fn is_fresh(used: NameSet, area: &[u8], len: usize, name: Name) -> bool
     requires { ⌜ 8 * len ≤ length (now area) ⌝ }
-    ensures { λ r. ⌜ r ≡ isFresh (now (p .entry)) (linesFrom (now (area .entry)) 0 len) (name .number) ⌝ }
+    ensures { λ r. ⌜ r ≡ not (has used (name .number) || branchHas (linesFrom (now (area .entry)) 0 len) (name .number)) ⌝ }
 {
-    if uses_name(p, n, name) {
+    if used.has(name.number) {
         return false;
     }
-    let lines = area;
-    !branch_has(&lines, 0, len, name)
+    !branch_has(area, len, name)
 }

@@ -173,10 +173,13 @@ pub fn line_has(area: &[u8], k: usize, name: Name) -> bool
 {
     let at = 8 * k;
     let n = name.number;
-    let compares = 2 < area[at];
-    let sides = (area[at + 4] == n) | (area[at + 6] == n);
-    let names = (area[at + 2] == n) | ((area[at] != 0) & (area[at + 3] == n));
-    (compares & sides) | (!compares & names)
+    if 2 < area[at] {
+        return (area[at + 4] == n) | (area[at + 6] == n);
+    }
+    if area[at + 3] == n {
+        return (area[at + 2] == n) | (area[at] != 0);
+    }
+    area[at + 2] == n
 }
 
 // Line k of the area becomes this one.

@@ -43,13 +43,17 @@ minus s t = record { low = half.minus (s .low) (t .low); high = half.minus (s .h
 
 -- ---- laws
 
-has-low : (s : NameSet) (i : ℕ) → i < width → has s i ≡ half.has (s .low) i
+pub has-low : (s : NameSet) (i : ℕ) → i < width → has s i ≡ half.has (s .low) i
 unfolding has
 has-low s i l = rw (lt-ltb i width l)
 
-has-high : (s : NameSet) (i : ℕ) → width ≤ i → has s i ≡ half.has (s .high) (i - width)
+pub has-high : (s : NameSet) (i : ℕ) → width ≤ i → has s i ≡ half.has (s .high) (i - width)
 unfolding has
 has-high s i l = rw (le-ltb i width l)
+
+-- no set has a number that is no name
+pub has-beyond : (s : NameSet) (i : ℕ) → maxName < i → has s i ≡ false
+has-beyond s i l = has-high s i (omega (arith, l)) ∙ half.has-beyond (s .high) (i - width) (omega (arith, l))
 
 pub has-none : (i : ℕ) → has noName i ≡ false
 unfolding noName

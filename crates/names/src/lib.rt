@@ -27,6 +27,21 @@ impl NameSet {
         }
     }
 
+    pub fn has(self, name: u8) -> bool
+        ensures { λ r. ⌜ r ≡ has self name ⌝ }
+    {
+        if name < NodeSet::WIDTH {
+            let low = self.low;
+            return low.has(name);
+        }
+        let above = name - NodeSet::WIDTH;
+        if above < NodeSet::WIDTH {
+            let high = self.high;
+            return high.has(above);
+        }
+        false
+    }
+
     pub fn insert(self, name: u8) -> NameSet
         requires { ⌜ name ≤ maxName ⌝ }
         ensures { λ r. ⌜ r ≡ insert self name ⌝ }

@@ -153,8 +153,21 @@ Job1 =
     × Prints patternJump (modelFile 1 0 0 (node 0)) "refused 27 5"
     × Prints pattern6 (modelFile 1 0 1 (node 0 ++ (0 ∷ 0 ∷ 1 ∷ []))) "refused 14 0"
 
+-- 02, Job 2: "for every branch and name its answer is the one that 01's words give. Findings and areas are unaffected." A name that the first
+-- line has, and no other, for there is none; one that the last two lines have; one that an entry has which the root doesn't reach; and one
+-- that nothing has, 64 above it.
+abbrev pub patternAfter : List ℕ
+patternAfter = patternFile 3 (2 ∷ 5 ∷ 0 ∷ 0 ∷ 1 ∷ 0 ∷ 0 ∷ 0 ∷ 5 ∷ 0 ∷ 1 ∷ 0 ∷ [])
+
+abbrev pub Job2 : Type 0
+Job2 =
+    Prints patternAfter (tableauFile 9 1 (step 5 0 0 9)) "refused 22 0"
+    × Prints patternAfter (tableauFile 9 2 (step 5 0 0 1 ++ step 5 0 0 1)) "refused 22 1"
+    × Prints patternAfter (tableauFile 9 1 (step 5 0 0 5)) "refused 22 0"
+    × Prints patternAfter (tableauFile 9 1 (step 5 0 0 69)) "refused 26 1"
+
 abbrev pub readings : List (Type 0)
-readings = A ∷ B ∷ C ∷ D ∷ E ∷ F ∷ G ∷ H ∷ I ∷ J ∷ Job1 ∷ []
+readings = A ∷ B ∷ C ∷ D ∷ E ∷ F ∷ G ∷ H ∷ I ∷ J ∷ Job1 ∷ Job2 ∷ []
 
 -- ---- laws
 
@@ -202,4 +215,4 @@ I-holds = (always-unmet, files, any)
 
 pub readings-hold : All readings
 unfolding readingOf patternCheck headerCheck entryCheck rootCheck eachField someBelow eachBelow sameBytes judgingOf judgingCheck namesCheck modelCheck file.headerCheck nameCheck edgeCheck isListed nodeAt nodeWithin pathWithin holdsTest leadsTest judgedBy lowestBelow countBelow leadsIn nodeNamed tableau.judgingOf tableau.judgingCheck tableau.headerCheck tableau.runOf run stepping ruleAt stepAt stepsFrom branchHas usesName digitsWithin
-readings-hold = (refl, (refl, (refl, (refl, (refl, (refl, (refl, (refl, (I-holds, ((refl, refl, refl, refl), ((refl, refl, refl, refl, refl), tt)))))))))))
+readings-hold = (refl, (refl, (refl, (refl, (refl, (refl, (refl, (refl, (I-holds, ((refl, refl, refl, refl), ((refl, refl, refl, refl, refl), ((refl, refl, refl, refl), tt))))))))))))

@@ -8,16 +8,18 @@ use crate::table::uses_argument;
 use crate::table::uses_q;
 use lines::fresh::is_fresh;
 use lines::load;
+use names::NameSet;
 use rules::conclusion::Conclusion;
 use rules::conclusion::Outcome;
 ghost use mathlib.Core.Path.{_≡_};
 ghost use mathlib.Core.Bool.{false};
 ghost use mathlib.Core.List.{List};
-ghost use Prim.Native.Nat.{_*_, _≤_};
+ghost use Prim.Native.Nat.{ℕ, _*_, _≤_};
 ghost use lib.Dec.{ltb};
 ghost use lib.ListN.{length};
-ghost use Rattle.pattern.specs.Checks.Finding.{found};
-ghost use Rattle.pattern.specs.File.Reading.{readingOf};
+ghost use Rattle.pattern.specs.File.Reading.{countOf};
+ghost use Rattle.pattern.specs.Meaning.Names.{usesName};
+ghost use Rattle.names.specs.Set.{SetOf};
 ghost use Rattle.lines.specs.declared.line.Line.{Line};
 ghost use Rattle.lines.specs.Stored.{linesFrom};
 ghost use Rattle.steps.specs.Steps.{lineFault, argumentFault, fieldFault, stepOutcome, isStale, stepping, answerOf};
@@ -77,24 +79,24 @@ fn step_outcome(p: &[u8], area: &[u8], len: usize, s: Step) -> Outcome
     outcome(p, s.rule, first, second, s.argument)
 }
 
-// Refusal 22: whether the conclusion wants a name fresh that isn't.
-fn is_stale(p: &[u8], n: u8, area: &[u8], len: usize, conclusion: Conclusion) -> bool
-    requires { ⌜ readingOf (now p) ≡ found n ⌝ }
+// Refusal 22: whether the conclusion wants a name fresh that isn't, for a pattern that uses these names.
+fn is_stale(used: NameSet, area: &[u8], len: usize, conclusion: Conclusion) -> bool
     requires { ⌜ 8 * len ≤ length (now area) ⌝ }
-    ensures { λ r. ⌜ r ≡ isStale (now (p .entry)) (linesFrom (now (area .entry)) 0 len) conclusion ⌝ }
+    ensures { λ r. ⌜ ((bs : List ℕ) → SetOf (usesName bs) used → r ≡ isStale bs (linesFrom (now (area .entry)) 0 len) conclusion) ⌝ }
 {
     match conclusion {
         Conclusion::One(_) => false,
         Conclusion::Two(_, _) => false,
-        Conclusion::New(name, _, _) => !is_fresh(p, n, area, len, name),
+        Conclusion::New(name, _, _) => !is_fresh(used, area, len, name),
         Conclusion::Fork(_, _) => false,
         Conclusion::Clash => false,
     }
 }
 
-// Step k, which is s, on a branch of so many lines, for a pattern of n entries.
-pub fn take(p: &[u8], n: u8, area: &[u8], len: usize, s: Step, k: u16) -> StepAnswer
-    requires { ⌜ AtStep (now p) n (now area) len ⌝ }
+// Step k, which is s, on a branch of so many lines, for a pattern that was read and uses these names.
+pub fn take(p: &[u8], used: NameSet, area: &[u8], len: usize, s: Step, k: u16) -> StepAnswer
+    requires { ⌜ AtStep (now p) (countOf (now p)) (now area) len ⌝ }
+    requires { ⌜ SetOf (usesName (now p)) used ⌝ }
     ensures { λ r. ⌜ answerOf r ≡ stepping (now (p .entry)) (linesFrom (now (area .entry)) 0 len) s k ⌝ }
 {
     if !is_known(s.rule) {
@@ -106,7 +108,7 @@ pub fn take(p: &[u8], n: u8, area: &[u8], len: usize, s: Step, k: u16) -> StepAn
     let Outcome::Fits(conclusion) = step_outcome(p, area, len, s) else {
         return StepAnswer::Refused(StepRefusal::Fit(k));
     };
-    if is_stale(p, n, area, len, conclusion) {
+    if is_stale(used, area, len, conclusion) {
         return StepAnswer::Refused(StepRefusal::Fresh(k));
     }
     StepAnswer::Concluded(conclusion)

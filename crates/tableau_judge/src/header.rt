@@ -1,13 +1,14 @@
 // The first 8 bytes of a tableau file: document 01's refusals 15 to 18, in its order.
-use pattern::names::uses_name;
+use names::NameSet;
 use pattern::types::Name;
 use pattern::types::NameMade;
 use tableau::finding::HeaderRefusal;
 ghost use mathlib.Core.Path.{_≡_};
-ghost use Prim.Native.Nat.{_≤_};
+ghost use mathlib.Core.List.{List};
+ghost use Prim.Native.Nat.{ℕ, _≤_};
 ghost use lib.ListN.{length};
-ghost use Rattle.pattern.specs.Checks.Finding.{found};
-ghost use Rattle.pattern.specs.File.Reading.{readingOf};
+ghost use Rattle.pattern.specs.Meaning.Names.{usesName};
+ghost use Rattle.names.specs.Set.{SetOf};
 ghost use Rattle.tableau.specs.Judging.{countWrong};
 ghost use Rattle.tableau_judge.specs.Headers.{headerOf, headerFinding};
 
@@ -42,10 +43,9 @@ fn count_wrong(t: &[u8]) -> bool
     t.len() != HEADER + 6 * (s as usize)
 }
 
-// Reads the header of a tableau for a pattern that was read, of n entries.
-pub fn read_header(p: &[u8], n: u8, t: &[u8]) -> HeaderRead
-    requires { ⌜ readingOf (now p) ≡ found n ⌝ }
-    ensures { λ r. ⌜ headerFinding r ≡ headerOf (now (p .entry)) (now (t .entry)) ⌝ }
+// Reads the header of a tableau for a pattern that uses these names.
+pub fn read_header(used: NameSet, t: &[u8]) -> HeaderRead
+    ensures { λ r. ⌜ ((bs : List ℕ) → SetOf (usesName bs) used → headerFinding r ≡ headerOf bs (now (t .entry))) ⌝ }
 {
     if t.len() < HEADER {
         return HeaderRead::Refused(HeaderRefusal::Mark);
@@ -62,7 +62,7 @@ pub fn read_header(p: &[u8], n: u8, t: &[u8]) -> HeaderRead
     let NameMade::Made(start) = Name::of(t[5]) else {
         return HeaderRead::Refused(HeaderRefusal::Start);
     };
-    if uses_name(p, n, start) {
+    if used.has(start.number) {
         return HeaderRead::Refused(HeaderRefusal::Start);
     }
     let steps = wire::word(t, 6);

@@ -3,6 +3,7 @@ use crate::header::HEADER;
 use crate::header::HeaderRead;
 use crate::header::read_header;
 use branch_walk::check_steps;
+use names::used_names;
 use pattern::finding::PatternRead;
 use pattern_read::read;
 use tableau::finding::TableauFinding;
@@ -25,11 +26,12 @@ fn judge_read(p: &[u8], n: u8, t: &[u8], area: &mut [u8]) -> TableauFinding
     if area.len() < AREA {
         return TableauFinding::Refused(TableauRefusal::Area);
     }
-    match read_header(p, n, t) {
+    let used = used_names(p, n);
+    match read_header(used, t) {
         HeaderRead::Refused(refusal) => TableauFinding::Refused(TableauRefusal::Header(refusal)),
         HeaderRead::Read(h) => {
             let start = h.start;
-            check_steps(p, n, &t[HEADER..], &mut area[..AREA], start, h.steps)
+            check_steps(p, n, used, &t[HEADER..], &mut area[..AREA], start, h.steps)
         }
     }
 }

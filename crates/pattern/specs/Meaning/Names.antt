@@ -16,7 +16,7 @@ use Rattle.pattern.specs.Logic.Syntax.{NExp, PExp}
 use Rattle.pattern.specs.Logic.Semantics.{Model, Naming, Leads, Holds}
 use Rattle.pattern.specs.Logic.Coincidence.{OfNames, OfNamesP, same-holds, same-leads}
 use Rattle.pattern.specs.Checks.Tests.{and-is-true}
-use Rattle.pattern.specs.Checks.Range.{someBelow, some-at, none-below, some-found}
+use Rattle.pattern.specs.Checks.Range.{someBelow, some-at, some-found}
 use Rattle.pattern.specs.File.Entries.{entryAt}
 use Rattle.pattern.specs.File.Reading.{countOf}
 use Rattle.pattern.specs.File.Fields.{OfReferences, map-references}
@@ -110,10 +110,6 @@ module _ {bs : List ℕ} {n : ℕ} (ok : Valid bs n) (i : ℕ) where
       let e = entryAt bs (r .0) in
       let b = and-is-true (bearsName (e .kind)) (eqb (e .x) i) (r .2) in
       rw (eqb-true (e .x) i (b .1)) at (name-at ok (r .0) (subst (λ (m : ℕ). r .0 < m) (ok .count-is) (r .1)) (b .0))
-
-  pub unused : ((k : ℕ) → k < n → entryUses bs i k ≡ false) → usesName bs i ≡ false
-  unfolding usesName
-  unused h = none-below (entryUses bs i) (countOf bs) (λ k l. h k (rw (ok .count-is) at l))
 
 module _ {bs : List ℕ} {n : ℕ} (ok : Valid bs n) (Q : ℕ → Type 0) (used : (i : ℕ) → usesName bs i ≡ true → Q i) where
   -- of the expressions of an entry

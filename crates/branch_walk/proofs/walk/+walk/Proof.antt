@@ -108,7 +108,7 @@ walk-walk-requires t c κs =
       omega (arith, start .pre .0, stops .says .0 .later, stops .says .1 .0 .0),
       (
         rw (c .before .before .before .before .store .ensures) (left-lent stops),
-        (search needs, rw (c .before .with-fork .ensures) (fork-bounded (start .pre .1 .1 .1) stops)),
+        (start .pre .1 .1 .0, (search needs, rw (c .before .with-fork .ensures) (fork-bounded (start .pre .1 .1 .1 .1) stops))),
       ),
     )
 
@@ -153,7 +153,7 @@ walk-walk-requires-2 t c κs =
       omega (arith, start .pre .0, stops .says .0 .later, left .says .later, left .says .steps-left),
       (
         rw stored (right-lent stops left kept),
-        (start .pre .1 .1 .0, left .says .bounded),
+        (start .pre .1 .1 .0, (start .pre .1 .1 .1 .0, left .says .bounded)),
       ),
     )
 
@@ -172,7 +172,7 @@ walk-returns-3 t c =
     let f = c .before .before in
     let start = f .before .before .before .before .before .before .before .before .before in
     let stops = rw (f .at .given .1) at (f .before .before .before .before .straight .ensures) in
-    rw (c .with-clash .ensures) (walk-clash (start .pre .1 .1 .1) stops)
+    rw (c .with-clash .ensures) (walk-clash (start .pre .1 .1 .1 .1) stops)
 
 walk-same-length-4 : (t : ℕ) → walk-lts.Need-same-length-4 (walk-claims t) (walk-at t) walk.Post
 walk-same-length-4 t c = search needs

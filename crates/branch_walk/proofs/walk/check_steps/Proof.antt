@@ -10,8 +10,8 @@ use Rattle.branch_walk.specs.WalkLaws.{first-lent, none-bounded, walk-fi
 use Rattle.branch_walk.proofs.walk.check_steps.Statement.{statement}
 use Rattle.branch_walk.proofs.walk.check_steps.Tie as tie
 
-sub-t11 : tie.Need-sub-t11
-sub-t11 c =
+sub-t12 : tie.Need-sub-t12
+sub-t12 c =
     let ok = valid _ _ (c .before .before .before .pre .0) in
     omega (arith, ok .header .some-entry, ok .count-is)
 
@@ -21,9 +21,9 @@ store-requires c κs = search needs
 walk-requires : tie.Need-walk-requires
 walk-requires c κs =
     let s = c .before .before .before .before .before .before .before .before in (
-      rw (c .before .before .before .store .ensures)
-          (first-lent (s .args .area .now) (s .args .start) (s .pre .0) (s .pre .1 .0 .0) (s .pre .1 .0 .1) (s .pre .1 .1)),
-      (search needs, none-bounded),
+      rw (c .before .before .before .store .ensures, valid _ _ (s .pre .0) .count-is)
+          (first-lent (s .args .area .now) (s .args .start) (s .pre .0) (s .pre .1 .1 .0 .0) (s .pre .1 .1 .0 .1) (s .pre .1 .1 .1)),
+      (s .pre .1 .0, (search needs, none-bounded)),
     )
 
 clear-requires : tie.Need-clear-requires
@@ -52,7 +52,7 @@ pub check-steps-spec : {M : Type 1} → statement M
 check-steps-spec =
     tie.close
     (tie.spec
-    sub-t11
+    sub-t12
     store-requires
     walk-requires
     clear-requires

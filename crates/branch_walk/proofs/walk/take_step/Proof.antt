@@ -42,7 +42,7 @@ returns : tie.Need-returns
 returns c =
     let f = c .before .before .before .before .before in
     let start = f .before .before .before .before .before .before in
-    step-long (start .pre .0) _ (start .pre .1, sym (told f) ∙ ap answerOf (c .before .before .before .answer2 .given .1))
+    step-long (start .pre .0) _ (start .pre .1 .1, sym (told f) ∙ ap answerOf (c .before .before .before .answer2 .given .1))
     (rw (c .before .added-by .ensures .0) at (c .if1 .taken))
 
 extend-requires : tie.Need-extend-requires
@@ -55,7 +55,7 @@ returns-2 : tie.Need-returns-2
 returns-2 c =
     let f = c .before .before .before in
     let start = f .before .before .before .before .before .before in
-    step-refused (start .pre .0) _ _ (c .before .answer .given .1) (start .pre .1) (told f)
+    step-refused (start .pre .0) _ _ (c .before .answer .given .1) (start .pre .1 .1) (told f)
 
 same-length-3 : tie.Need-same-length-3
 same-length-3 c = search needs
@@ -68,7 +68,7 @@ returns-3 c =
     let f = g .before .before in
     let start = f .before .before .before .before .before .before in
     rw (e .extend .ensures .0, e .extend .ensures .1)
-    (step-concludes (start .pre .0) _ (start .pre .1, sym (told f) ∙ ap answerOf (g .answer2 .given .1))
+    (step-concludes (start .pre .0) _ (start .pre .1 .1, sym (told f) ∙ ap answerOf (g .answer2 .given .1))
     (rw (i .before .added-by .ensures .0) at (i .if1 .left)))
 
 pub take-step-spec : {M : Type 1} → statement M

@@ -1,6 +1,6 @@
 -- `steps::take::is_stale` meets its contract: only a conclusion that wants a name fresh asks for it.
 -- Assumes nothing.
-use mathlib.Core.Path.{sym}
+use mathlib.Core.Path.{refl, sym}
 use mathlib.Core.Bool.{or-false}
 use borrow.Author.Needs.{needs}
 use Rattle.steps.proofs.take.is_stale.Statement.{statement}
@@ -25,19 +25,19 @@ enum-told-4 : tie.Need-enum-told-4
 enum-told-4 c = search needs
 
 returns : tie.Need-returns
-returns c = search needs
+returns c bs uses = rw (c .enum-told .given .1) refl
 
 returns-2 : tie.Need-returns-2
-returns-2 c = search needs
+returns-2 c bs uses = rw (c .enum-told2 .given .1) refl
 
 returns-3 : tie.Need-returns-3
-returns-3 c = rw (c .before .before .conclusion .given .1, c .is-fresh .ensures) (sym (or-false _))
+returns-3 c bs uses = rw (c .before .before .conclusion .given .1, c .is-fresh .ensures, uses _) (sym (or-false _))
 
 returns-4 : tie.Need-returns-4
-returns-4 c = search needs
+returns-4 c bs uses = rw (c .enum-told3 .given .1) refl
 
 returns-5 : tie.Need-returns-5
-returns-5 c = search needs
+returns-5 c bs uses = rw (c .enum-told4 .given .1) refl
 
 pub is-stale-spec : {M : Type 1} → statement M
 is-stale-spec =

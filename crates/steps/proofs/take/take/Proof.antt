@@ -40,7 +40,7 @@ unfolding stepping
 returns-2 c = rw (known (c .before .before), fields (c .before) (c .if2 .taken)) refl
 
 step-outcome-requires : tie.Need-step-outcome-requires
-step-outcome-requires c κs = (readable (c .before .before .before .before .before .before .pre), fields (c .before) (c .if2 .left))
+step-outcome-requires c κs = (readable (c .before .before .before .before .before .before .pre .0), fields (c .before) (c .if2 .left))
 
 enum-known-conclusion : tie.Need-enum-known-conclusion
 enum-known-conclusion c = search needs
@@ -68,7 +68,7 @@ returns-4 c =
       known (e .before .before),
       fields (e .before) (e .if2 .left),
       sym (o .step-outcome .ensures) ∙ f .conclusion .given .1,
-      sym (c .before .is-stale .ensures) ∙ c .if3 .taken,
+      sym (c .before .is-stale .ensures _ (e .before .before .before .before .before .before .pre .1)) ∙ c .if3 .taken,
     ) refl
 
 returns-5 : tie.Need-returns-5
@@ -81,7 +81,7 @@ returns-5 c =
       known (e .before .before),
       fields (e .before) (e .if2 .left),
       sym (o .step-outcome .ensures) ∙ f .conclusion .given .1,
-      sym (c .before .is-stale .ensures) ∙ c .if3 .left,
+      sym (c .before .is-stale .ensures _ (e .before .before .before .before .before .before .pre .1)) ∙ c .if3 .left,
     ) refl
 
 pub take-spec : {M : Type 1} → statement M

@@ -16,9 +16,9 @@ use Rattle.tableau_judge.proofs.header.read_header.Tie as tie
 
 returns : tie.Need-returns
 unfolding headerOf headerCheck
-returns c = rw (lt-ltb _ _ (c .if1 .taken))
+returns c bs uses = rw (lt-ltb _ _ (c .if1 .taken))
 
-long : (c : tie.Else1) → ltb (length (c .before .before .before .args .t .now)) 8 ≡ false
+long : (c : tie.Else1) → ltb (length (c .before .before .args .t .now)) 8 ≡ false
 long c = le-ltb _ _ (c .if1 .left)
 
 slice-aggregate-begins : tie.Need-slice-aggregate-begins
@@ -29,11 +29,11 @@ begins-requires c κs = search needs
 
 returns-2 : tie.Need-returns-2
 unfolding headerOf headerCheck
-returns-2 c =
+returns-2 c bs uses =
     let b = c .before in
     rw (long (b .before .before), sym (b .begins .ensures) ∙ not-true _ (c .if2 .taken))
 
-marked : (c : tie.Else2) → beginsWith mark (c .before .before .before .before .before .before .args .t .now) ≡ true
+marked : (c : tie.Else2) → beginsWith mark (c .before .before .before .before .before .args .t .now) ≡ true
 marked c = sym (c .before .begins .ensures) ∙ not-false _ (c .if2 .left)
 
 word-requires : tie.Need-word-requires
@@ -41,11 +41,11 @@ word-requires c κs = search needs
 
 returns-3 : tie.Need-returns-3
 unfolding headerOf headerCheck
-returns-3 c =
+returns-3 c bs uses =
     let m = c .before .before in
     rw (long (m .before .before .before), marked m, ne-eqb _ _ (λ e. c .if3 .taken (c .before .word .ensures ∙ e)))
 
-version-one : (c : tie.Else3) → eqb (wordAt (c .before .before .before .before .before .before .before .before .args .t .now) 3) 1 ≡ true
+version-one : (c : tie.Else3) → eqb (wordAt (c .before .before .before .before .before .before .before .args .t .now) 3) 1 ≡ true
 version-one c = eq-eqb _ _ (sym (c .before .word .ensures) ∙ c .if3 .left)
 
 count-wrong-requires : tie.Need-count-wrong-requires
@@ -53,12 +53,12 @@ count-wrong-requires c κs = search needs
 
 returns-4 : tie.Need-returns-4
 unfolding headerOf headerCheck
-returns-4 c =
+returns-4 c bs uses =
     let v = c .before .before in
     let m = v .before .before in
     rw (long (m .before .before .before), marked m, version-one v, sym (c .before .count-wrong .ensures) ∙ c .if4 .taken)
 
-count-right : (c : tie.Else4) → countWrong (c .before .before .before .before .before .before .before .before .before .before .args .t .now) ≡ false
+count-right : (c : tie.Else4) → countWrong (c .before .before .before .before .before .before .before .before .before .args .t .now) ≡ false
 count-right c = sym (c .before .count-wrong .ensures) ∙ c .if4 .left
 
 shared-slice-read-of : tie.Need-shared-slice-read-of
@@ -75,7 +75,7 @@ enum-told c = search needs
 
 returns-5 : tie.Need-returns-5
 unfolding headerOf headerCheck
-returns-5 c =
+returns-5 c bs uses =
     let f = c .before .before in
     let k = f .before .before in
     let v = k .before .before in
@@ -88,25 +88,26 @@ returns-5 c =
       start-out _ _ (f .of .ensures) (c .enum-told .given .1),
     )
 
-uses-name-requires : tie.Need-uses-name-requires
-uses-name-requires c κs = search needs
+has-requires : tie.Need-has-requires
+has-requires c κs = search needs
 
 returns-6 : tie.Need-returns-6
 unfolding headerOf headerCheck
-returns-6 c =
+returns-6 c bs uses =
     let s = c .before .before .before in
     let f = s .before .before in
     let k = f .before .before in
     let v = k .before .before in
     let m = v .before .before in
-    let made = start-made (startOf (m .before .before .before .before .before .before .args .t .now)) _ _ (f .of .ensures) (s .start .given .1) in
+    let start = startOf (m .before .before .before .before .before .args .t .now) in
+    let made = start-made start _ _ (f .of .ensures) (s .start .given .1) in
     rw (
       long (m .before .before .before),
       marked m,
       version-one v,
       count-right k,
       made .0,
-      sym (rw (made .1) at (c .before .uses-name .ensures)) ∙ c .if5 .taken,
+      sym (uses start) ∙ sym (rw (made .1) at (c .before .has .ensures)) ∙ c .if5 .taken,
     )
 
 word-requires-2 : tie.Need-word-requires-2
@@ -114,21 +115,22 @@ word-requires-2 c κs = search needs
 
 returns-7 : tie.Need-returns-7
 unfolding headerOf headerCheck
-returns-7 c =
+returns-7 c bs uses =
     let u = c .before .before in
     let s = u .before .before in
     let f = s .before .before in
     let k = f .before .before in
     let v = k .before .before in
     let m = v .before .before in
-    let made = start-made (startOf (m .before .before .before .before .before .before .args .t .now)) _ _ (f .of .ensures) (s .start .given .1) in
+    let start = startOf (m .before .before .before .before .before .args .t .now) in
+    let made = start-made start _ _ (f .of .ensures) (s .start .given .1) in
     rw (
       long (m .before .before .before),
       marked m,
       version-one v,
       count-right k,
       made .0,
-      sym (rw (made .1) at (u .uses-name .ensures)) ∙ c .before .if5 .left,
+      sym (uses start) ∙ sym (rw (made .1) at (u .has .ensures)) ∙ c .before .if5 .left,
       c .word2 .ensures,
       made .1,
     )
@@ -150,7 +152,7 @@ read-header-spec =
     enum-known-start
     enum-told
     returns-5
-    uses-name-requires
+    has-requires
     returns-6
     word-requires-2
     returns-7)
