@@ -99,7 +99,7 @@ fn everything_occurs_and_what_never_does_is_named() {
     assert_eq!(missing(|tally| tally.refused[0][8].times = 0), ["refusal 8 of reading a pattern"]);
     assert_eq!(missing(|tally| tally.refused[1][14].times = 0), ["refusal 14 of judging a model"]);
     assert_eq!(missing(|tally| tally.refused[1][27].times = 0), ["refusal 27 of judging a model"]);
-    assert_eq!(missing(|tally| assert!(tally.unlisted.remove(&77))), ["name 77 refused 27"]);
+    assert_eq!(missing(|tally| assert!(tally.names[0].remove(&77))), ["name 77 refused 27"]);
     assert_eq!(missing(|tally| tally.refused[2][24].times = 0), ["refusal 24 of judging a tableau"]);
     assert_eq!(missing(|tally| tally.rules[20].closed = 0), ["rule 20 in a closed tableau"]);
     assert_eq!(missing(|tally| tally.rules[3].refused[1] = 0), ["a step with rule 3 refused 21"]);

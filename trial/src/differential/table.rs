@@ -1,8 +1,9 @@
 //! The table that a run prints of its tally.
 
+use super::fresh::FRESH;
 use super::limits::{LIMITS, Limit};
 use super::missing::{refusals, words};
-use super::names::NAMES;
+use super::names::{EACH_NAME, NAMES};
 use super::tally::Tally;
 use crate::generate::input::{Kind, Operation};
 use std::fmt;
@@ -28,7 +29,11 @@ impl fmt::Display for Tally {
         }
         self.write_shown(f, "limits", &LIMITS)?;
         self.write_shown(f, "names that the pattern uses and those that the model lists", &NAMES)?;
-        writeln!(f, "{:>12}    of the 128 names refused 27", self.unlisted.len())?;
+        self.write_shown(f, "start names and fresh names", &FRESH)?;
+        writeln!(f, "how many of the 128 names were so")?;
+        for (names, (what, _)) in self.names.iter().zip(EACH_NAME) {
+            writeln!(f, "{:>12}    {what}", names.len())?;
+        }
         writeln!(f, "files of 0 to 10 bytes")?;
         for operation in Operation::ALL {
             writeln!(

@@ -1,0 +1,46 @@
+//! Other names asked for in a closed tableau: as its start name, or as a name that a step brings.
+
+use oracle::random::Random;
+use oracle::tableau::rules::brings_name;
+use oracle::tableau::{HEADER_BYTES, STEP_BYTES};
+
+/// Where the start name stands in a tableau file, and where the rule and the argument stand in a step.
+const START: usize = 5;
+const RULE: usize = 0;
+const ARGUMENT: usize = 5;
+
+/// Where the names that the steps of a tableau file bring stand in it.
+pub fn brought(tableau: &[u8]) -> impl Iterator<Item = usize> {
+    let steps = (HEADER_BYTES..tableau.len()).step_by(STEP_BYTES);
+    steps.filter(|step| brings_name(tableau[step + RULE])).map(|step| step + ARGUMENT)
+}
+
+/// Makes the start name one that the pattern uses, if it uses any.
+pub fn start(random: &mut Random, pattern: &[u8], tableau: &mut [u8]) {
+    ask(random, &used(pattern), &mut tableau[START]);
+}
+
+/// Makes a name that a step brings one that the pattern uses, or that the tableau has before. If its branch
+/// lacks that, or it is 64 apart, the tableau is closed as before: steps speak of lines, not of names.
+pub fn fresh(random: &mut Random, pattern: &[u8], tableau: &mut [u8]) {
+    let places: Vec<usize> = [START].into_iter().chain(brought(tableau)).collect();
+    let step = random.between(1, places.len() - 1);
+    let mut names = used(pattern);
+    if names.is_empty() || random.once_in(2) {
+        names = places[..step].iter().map(|&place| tableau[place]).collect();
+    }
+    ask(random, &names, &mut tableau[places[step]]);
+}
+
+/// Asks for one of the names, now and then for the one 64 apart.
+fn ask(random: &mut Random, names: &[u8], asked: &mut u8) {
+    if !names.is_empty() {
+        *asked = random.pick(names) ^ random.pick(&[0, 0, 0, 64]);
+    }
+}
+
+/// The names that a valid pattern file uses, one for each entry that has it.
+fn used(pattern: &[u8]) -> Vec<u8> {
+    let entries = pattern[6..].chunks_exact(4).filter(|entry| matches!(entry[0], 2 | 9));
+    entries.map(|entry| entry[1]).collect()
+}
