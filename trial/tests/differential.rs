@@ -19,7 +19,7 @@ use trial::generate::{BLOCK, Generator};
 /// Enough inputs for every planted fault to be seen.
 const RUN: Run = Run { seed: 1, count: 40 * BLOCK, threads: 2 };
 /// Enough inputs for everything to occur.
-const COMPLETE: Run = Run { count: 80 * BLOCK, ..RUN };
+const COMPLETE: Run = Run { count: 120 * BLOCK, ..RUN };
 
 /// Runs an implementation with a planted fault against the independent one.
 fn planted(fault: &(dyn Fn(Operation, Lent) -> Finding + Sync)) -> Result<Tally, Box<Failure>> {

@@ -1,5 +1,7 @@
 //! Other names asked for in a closed tableau: as its start name, or as a name that a step brings.
 
+use oracle::pattern::Pattern;
+use oracle::planner::builder::{Builder, END};
 use oracle::random::Random;
 use oracle::tableau::rules::brings_name;
 use oracle::tableau::{HEADER_BYTES, STEP_BYTES};
@@ -8,6 +10,20 @@ use oracle::tableau::{HEADER_BYTES, STEP_BYTES};
 const START: usize = 5;
 const RULE: usize = 0;
 const ARGUMENT: usize = 5;
+
+/// The pattern with one more entry that has a name, before all others; the pattern itself if it is full. The root
+/// doesn't reach the entry unless it was there, and a tableau without the name is judged as before.
+pub fn with_name(random: &mut Random, pattern: &Pattern) -> Pattern {
+    let mut builder = Builder::default();
+    let name = random.below(128) as u8;
+    if random.once_in(2) {
+        builder.name(name);
+    } else {
+        builder.jump(name, END);
+    }
+    let root = builder.graft(pattern);
+    builder.finish(root).unwrap_or_else(|| pattern.clone())
+}
 
 /// Where the names that the steps of a tableau file bring stand in it.
 pub fn brought(tableau: &[u8]) -> impl Iterator<Item = usize> {
@@ -26,8 +42,9 @@ pub fn fresh(random: &mut Random, pattern: &[u8], tableau: &mut [u8]) {
     let places: Vec<usize> = [START].into_iter().chain(brought(tableau)).collect();
     let step = random.between(1, places.len() - 1);
     let mut names = used(pattern);
-    if names.is_empty() || random.once_in(2) {
-        names = places[..step].iter().map(|&place| tableau[place]).collect();
+    if names.is_empty() || random.below(5) < 2 {
+        let first = if random.once_in(2) { step - 1 } else { 0 };
+        names = places[first..step].iter().map(|&place| tableau[place]).collect();
     }
     ask(random, &names, &mut tableau[places[step]]);
 }

@@ -14,9 +14,9 @@ use oracle::random::Random;
 /// How many of a hundred inputs are of each kind.
 const SHARES: [(usize, Kind); 18] = [
     (4, Kind::ValidPattern),
-    (9, Kind::MutatedPattern),
+    (8, Kind::MutatedPattern),
     (5, Kind::PatternLimit),
-    (9, Kind::ValidModel),
+    (8, Kind::ValidModel),
     (7, Kind::MutatedModel),
     (4, Kind::ModelLimit),
     (4, Kind::PlannedModel),
@@ -26,7 +26,7 @@ const SHARES: [(usize, Kind); 18] = [
     (3, Kind::TableauLimit),
     (5, Kind::PlannedTableau),
     (8, Kind::MutatedPlannedTableau),
-    (8, Kind::OtherName),
+    (10, Kind::OtherName),
     (2, Kind::Exchanged),
     (2, Kind::Unrelated),
     (4, Kind::ModelOfClosed),
@@ -146,39 +146,38 @@ fn planned_model(random: &mut Random, corpus: &Corpus, input: &mut Input) {
 
 fn planned_tableau(random: &mut Random, corpus: &Corpus, input: &mut Input) {
     let planned = any(random, &corpus.closed);
+    input.pattern.clone_from(&planned.pattern_file);
     closed_tableau(random, planned, input);
     if input.kind == Kind::MutatedPlannedTableau {
         mutate(random, Sort::Tableau, &mut input.proposal);
     }
 }
 
-/// A closed tableau, renamed.
+/// The closed tableau of a plan, renamed together with the pattern.
 fn closed_tableau(random: &mut Random, planned: &Planned, input: &mut Input) {
     input.operation = Operation::Tableau;
-    input.pattern.clone_from(&planned.pattern_file);
     input.proposal.clone_from(&planned.proposal_file);
     let renaming = Renaming::random(random);
     renaming.pattern(&mut input.pattern);
     renaming.tableau(&mut input.proposal);
 }
 
-/// A closed tableau with another name that is brought; or with another start name, now and then for a random
-/// pattern.
+/// A closed tableau that brings names, with another such name or another start name, for its pattern with one more
+/// name or, as for the start name it may be, a random one.
 fn other_name(random: &mut Random, corpus: &Corpus, input: &mut Input) {
-    if random.once_in(3) {
-        planned_tableau(random, corpus, input);
-        if random.once_in(2) {
-            input.pattern = patterns::random(random).to_bytes();
-            Renaming::random(random).pattern(&mut input.pattern);
-        }
-        asked::start(random, &input.pattern, &mut input.proposal);
+    let brings = |planned: &&Planned| asked::brought(&planned.proposal_file).next().is_some();
+    let bringing: Vec<&Planned> = corpus.closed.iter().filter(brings).collect();
+    let planned = random.pick(&bringing);
+    let (at_start, unrelated) = (random.once_in(3), random.once_in(4));
+    let pattern = if at_start && unrelated {
+        patterns::random(random)
     } else {
-        let brings = |planned: &&Planned| asked::brought(&planned.proposal_file).next().is_some();
-        let bringing: Vec<&Planned> = corpus.closed.iter().filter(brings).collect();
-        let planned = random.pick(&bringing);
-        closed_tableau(random, planned, input);
-        asked::fresh(random, &input.pattern, &mut input.proposal);
-    }
+        asked::with_name(random, &planned.pattern)
+    };
+    input.pattern = pattern.to_bytes();
+    closed_tableau(random, planned, input);
+    let ask = if at_start { asked::start } else { asked::fresh };
+    ask(random, &input.pattern, &mut input.proposal);
 }
 
 /// A walk on a pattern with a closed tableau, which it sometimes closes, or on a crowded or random one.

@@ -2,7 +2,8 @@
 //!
 //! They are mostly for one pattern, "p and q, and not both", whose tableau can grow at will: with lines 1
 //! (p and q), 2 (not both) and 5 (lacks both) on the branch, a step may add one line or two, fork, or
-//! clash, at any time. For another, "p, and p after axis 0", it can bring names.
+//! clash, at any time. For another, "p after axis 0, and same over it", it can bring
+//! names by lines 1 (after) and 3 (the comparison).
 
 use super::{cut_short, misjudge_length, spoil_header};
 use crate::generate::mutate::{Sort, mutate};
@@ -17,10 +18,12 @@ const PATTERN: &[u8] = b"PAT\x01\x00\x05\
     \x03\x02\x00\x00\
     \x04\x02\x03\x00";
 
-const NAMING: &[u8] = b"PAT\x01\x00\x03\
+const NAMING: &[u8] = b"PAT\x01\x00\x05\
     \x01\x00\x00\x00\
     \x05\x00\x00\x00\
-    \x04\x00\x01\x00";
+    \x08\x00\xff\x00\
+    \x06\x00\x02\xff\
+    \x04\x01\x03\x00";
 
 /// The steps that lead to the six lines: p and q; not both; p; q; lacks both.
 const BEGINNING: [Step; 3] = [step(2, 0, 0), step(2, 1, 0), step(1, 2, 0)];
@@ -148,17 +151,18 @@ fn to_the_right(random: &mut Random) -> Vec<Step> {
     steps
 }
 
-/// A name brought to a branch of up to 1,021 lines, and, with up to 1,023 on it, the same name once more, or
-/// the start name, or one that is fresh.
+/// A name brought to a branch of up to 1,020 lines; then, with up to 1,022 on it, the same name again, or the
+/// start name, or one that is fresh.
 fn late_name(random: &mut Random) -> Tableau {
     let [start, name] = [0; 2].map(|_| random.below(128) as u8);
-    let bring = |argument| Step { rule: 5, p: 2, q: 0, argument };
     let both_parts = step(2, 0, 0);
-    let before = random.between(1, 510);
-    let behind = if random.once_in(2) { 0 } else { random.between(0, 510 - before) };
-    let mut steps = [both_parts].repeat(before);
+    let before = random.between(0, 508);
+    let behind = if random.once_in(2) { 0 } else { random.between(0, 508 - before) };
+    let mut bring = |argument| Step { argument, ..random.pick(&[step(5, 1, 0), step(14, 3, 0)]) };
+    let mut steps = vec![both_parts, step(7, 2, 0)];
+    steps.extend([both_parts].repeat(before));
     steps.push(bring(name));
     steps.extend([both_parts].repeat(behind));
-    steps.push(bring(random.pick(&[name, name, start, name ^ 64])));
+    steps.push(bring([name, name, start, name ^ 64][before % 4]));
     Tableau { start, steps }
 }
