@@ -25,14 +25,17 @@ pub const FRESH: [Limit; 19] = [
         it.on_branch().is_some_and(|had| had.length > 2 && had.first() + 2 == had.length)
     }),
     ("name of two lines in between alone refused 22", |it| {
-        it.on_branch().is_some_and(|had| had.first() > 0 && had.lines.len() == 2 && had.first() + 2 < had.length)
+        it.on_branch()
+            .is_some_and(|had| had.first() > 0 && had.lines.len() == 2 && had.first() + 2 < had.length)
     }),
     ("name of no line before line 256 refused 22", |it| it.on_branch().is_some_and(|had| had.first() >= 256)),
     ("name of an axis line and a line of has alone refused 22", |it| {
-        it.on_branch().is_some_and(|had| matches!(had.lines[..], [(_, Line::Edge { .. }), (_, Line::Has { .. })]))
+        it.on_branch()
+            .is_some_and(|had| matches!(had.lines[..], [(_, Line::Edge { .. }), (_, Line::Has { .. })]))
     }),
     ("name of an axis line and a comparison alone refused 22", |it| {
-        it.on_branch().is_some_and(|had| matches!(had.lines[..], [(_, Line::Edge { .. }), (_, Line::Compare { .. })]))
+        it.on_branch()
+            .is_some_and(|had| matches!(had.lines[..], [(_, Line::Edge { .. }), (_, Line::Compare { .. })]))
     }),
     ("name by itself refused 22", |it| it.in_pattern().is_some_and(Had::by_itself)),
     ("name of jumps alone refused 22", |it| it.in_pattern().is_some_and(Had::of_jumps)),
