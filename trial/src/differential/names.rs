@@ -27,8 +27,11 @@ pub const NAMES: [Limit; 14] = [
     }),
 ];
 
-/// What a run must see of each of the 128 names, in words, and the name of which an input shows it.
-pub const EACH_NAME: [(&str, fn(&Judged) -> Option<usize>); 4] = [
+/// What a run must see of a name, in words, and the name of which an input shows it.
+pub type OfName = (&'static str, fn(&Judged) -> Option<usize>);
+
+/// What a run must see of each of the 128 names.
+pub const EACH_NAME: [OfName; 4] = [
     ("refused 27", |it| it.place(27)),
     ("refused 18", |it| it.at_start().map(|had| had.name.into())),
     ("of the branch refused 22", |it| it.on_branch().map(|had| had.name.into())),
