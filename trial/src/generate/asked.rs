@@ -11,8 +11,8 @@ const START: usize = 5;
 const RULE: usize = 0;
 const ARGUMENT: usize = 5;
 
-/// The pattern with one more entry that has a name, before all others; the pattern itself if it is full. The root
-/// doesn't reach the entry unless it was there, and a tableau without the name is judged as before.
+/// The pattern with one more entry that has a name, before all others; the pattern itself if it is full. The
+/// root doesn't reach the entry unless it was there, and a tableau without the name is judged as before.
 pub fn with_name(random: &mut Random, pattern: &Pattern) -> Pattern {
     let mut builder = Builder::default();
     let name = random.below(128) as u8;
@@ -36,8 +36,8 @@ pub fn start(random: &mut Random, pattern: &[u8], tableau: &mut [u8]) {
     ask(random, &used(pattern), &mut tableau[START]);
 }
 
-/// Makes a name that a step brings one that the pattern uses, or that the tableau has before. If its branch
-/// lacks that, or it is 64 apart, the tableau is closed as before: steps speak of lines, not of names.
+/// Makes a name that a step brings one that the pattern uses, or that the tableau has before. If it is fresh
+/// all the same, the tableau mostly stays closed: steps speak of lines, not of names.
 pub fn fresh(random: &mut Random, pattern: &[u8], tableau: &mut [u8]) {
     let places: Vec<usize> = [START].into_iter().chain(brought(tableau)).collect();
     let step = random.between(1, places.len() - 1);

@@ -162,8 +162,8 @@ fn closed_tableau(random: &mut Random, planned: &Planned, input: &mut Input) {
     renaming.tableau(&mut input.proposal);
 }
 
-/// A closed tableau that brings names, with another such name or another start name, for its pattern with one more
-/// name or, as for the start name it may be, a random one.
+/// A closed tableau that brings names, with another start name or with another name that a step brings. Its
+/// pattern has one more name; that of another start name is now and then a random one.
 fn other_name(random: &mut Random, corpus: &Corpus, input: &mut Input) {
     let brings = |planned: &&Planned| asked::brought(&planned.proposal_file).next().is_some();
     let bringing: Vec<&Planned> = corpus.closed.iter().filter(brings).collect();

@@ -34,8 +34,7 @@ fn among(entries: &[Entry], name: u8) -> bool {
 /// Whether it takes a branch to have a name, with the words for the lines that it goes by.
 pub type Search = (&'static str, fn(&[Line], u8) -> bool);
 
-pub const SEARCHES: [Search; 13] = [
-    ("no line", |_, _| false),
+pub const SEARCHES: [Search; 12] = [
     ("the first line alone", |branch, name| any(&branch[..1], name)),
     ("the last line alone", |branch, name| any(&branch[branch.len() - 1..], name)),
     ("no first line", |branch, name| any(&branch[1..], name)),

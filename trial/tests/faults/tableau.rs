@@ -95,10 +95,8 @@ impl Fault {
             return Err(25);
         }
         let fitting = rules::fit(pattern, &stand.branch, step);
-        let applied = fitting.and_then(|conclusion| match step.rule {
-            5 | 14 if self.is_stale(pattern, stand, step.argument) => Err(22),
-            _ => Ok(conclusion),
-        });
+        let stale = rules::brings_name(step.rule) && self.is_stale(pattern, stand, step.argument);
+        let applied = if stale { fitting.and(Err(22)) } else { fitting };
         let conclusion = applied.or_else(|number| match number {
             21 | 22 => (self.accepts)(pattern, &stand.branch, step).ok_or(number),
             _ => Err(number),
