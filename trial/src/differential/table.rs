@@ -30,10 +30,7 @@ impl fmt::Display for Tally {
         self.write_shown(f, "limits", &LIMITS)?;
         self.write_shown(f, "names that the pattern uses and those that the model lists", &NAMES)?;
         self.write_shown(f, "start names and fresh names", &FRESH)?;
-        writeln!(f, "how many of the 128 names were so")?;
-        for (names, (what, _)) in self.names.iter().zip(EACH_NAME) {
-            writeln!(f, "{:>12}    {what}", names.len())?;
-        }
+        self.write_each_name(f)?;
         writeln!(f, "files of 0 to 10 bytes")?;
         for operation in Operation::ALL {
             writeln!(
@@ -59,6 +56,14 @@ impl Tally {
         for number in refusals(operation) {
             let refused = self.refused[operation as usize][number];
             writeln!(f, "{:>12}    {number:>2} {:>12}", refused.times, refused.deepest)?;
+        }
+        Ok(())
+    }
+
+    fn write_each_name(&self, f: &mut fmt::Formatter<'_>) -> fmt::Result {
+        writeln!(f, "how many of the 128 names were so")?;
+        for (names, (what, _)) in self.names.iter().zip(EACH_NAME) {
+            writeln!(f, "{:>12}    {what}", names.len())?;
         }
         Ok(())
     }
