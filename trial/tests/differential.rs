@@ -3,6 +3,7 @@
 
 mod faults;
 
+use faults::fresh::{RIGHT, SEARCHES, SETS};
 use faults::model::{MISREADINGS, misread};
 use faults::names::{MISTAKES, mistaken, names_before_edges};
 use faults::tableau::{self, Fault, NONE};
@@ -19,7 +20,7 @@ use trial::generate::{BLOCK, Generator};
 /// Enough inputs for every planted fault to be seen.
 const RUN: Run = Run { seed: 1, count: 40 * BLOCK, threads: 2 };
 /// Enough inputs for everything to occur.
-const COMPLETE: Run = Run { count: 80 * BLOCK, ..RUN };
+const COMPLETE: Run = Run { count: 120 * BLOCK, ..RUN };
 
 /// Runs an implementation with a planted fault against the independent one.
 fn planted(fault: &(dyn Fn(Operation, Lent) -> Finding + Sync)) -> Result<Tally, Box<Failure>> {
@@ -39,11 +40,11 @@ fn is_seen(fault: Fault) {
     assert!(matches!(what, What::Finding { .. }), "{what:?}");
 }
 
-/// Asserts that a fault in judging a model, one of several, is seen as another finding.
+/// Asserts that a fault, one of several, is seen as another finding, or as one that demand 3 rules out.
 fn is_seen_among(words: &str, fault: &(dyn Fn(Operation, Lent) -> Finding + Sync)) {
     let Err(failure) = planted(fault) else { panic!("not seen: {words}") };
     let what = failure.difference.what;
-    assert!(matches!(what, What::Finding { .. }), "{words}: {what:?}");
+    assert!(matches!(what, What::Finding { .. } | What::Demand { .. }), "{words}: {what:?}");
 }
 
 fn tally(run: Run) -> Tally {
@@ -99,7 +100,7 @@ fn everything_occurs_and_what_never_does_is_named() {
     assert_eq!(missing(|tally| tally.refused[0][8].times = 0), ["refusal 8 of reading a pattern"]);
     assert_eq!(missing(|tally| tally.refused[1][14].times = 0), ["refusal 14 of judging a model"]);
     assert_eq!(missing(|tally| tally.refused[1][27].times = 0), ["refusal 27 of judging a model"]);
-    assert_eq!(missing(|tally| assert!(tally.unlisted.remove(&77))), ["name 77 refused 27"]);
+    assert_eq!(missing(|tally| assert!(tally.names[0].remove(&77))), ["name 77 refused 27"]);
     assert_eq!(missing(|tally| tally.refused[2][24].times = 0), ["refusal 24 of judging a tableau"]);
     assert_eq!(missing(|tally| tally.rules[20].closed = 0), ["rule 20 in a closed tableau"]);
     assert_eq!(missing(|tally| tally.rules[3].refused[1] = 0), ["a step with rule 3 refused 21"]);
@@ -113,6 +114,13 @@ fn everything_occurs_and_what_never_does_is_named() {
         missing(|tally| assert!(tally.limits.remove("met, names used").is_some())),
         ["names: met, names used"]
     );
+    assert_eq!(
+        missing(|tally| assert!(tally.limits.remove("name by itself refused 22").is_some())),
+        ["fresh names: name by itself refused 22"]
+    );
+    assert_eq!(missing(|tally| assert!(tally.names[1].remove(&0))), ["name 0 refused 18"]);
+    assert_eq!(missing(|tally| assert!(tally.names[2].remove(&64))), ["name 64 of the branch refused 22"]);
+    assert_eq!(missing(|tally| assert!(tally.names[3].remove(&127))), ["name 127 of the pattern refused 22"]);
     assert_eq!(missing(|tally| tally.kinds[Kind::Unrelated as usize] = 0).len(), 1);
     assert!(Tally::default().missing().len() > 300);
 }
@@ -276,6 +284,33 @@ fn a_name_of_the_branch_taken_as_fresh_in_rule_5_is_seen() {
 #[test]
 fn a_name_of_the_branch_taken_as_fresh_in_rule_14_is_seen() {
     is_seen(Fault { accepts: tableau::stale_name::<14>, ..NONE });
+}
+
+#[test]
+fn mistakes_about_the_names_that_a_pattern_uses_are_seen() {
+    for (words, uses) in SETS {
+        is_seen_among(words, &|operation, lent| Fault { uses, ..NONE }.run(operation, lent));
+    }
+}
+
+#[test]
+fn mistakes_in_searching_a_branch_are_seen() {
+    for (words, has) in SEARCHES {
+        is_seen_among(words, &|operation, lent| Fault { has, ..NONE }.run(operation, lent));
+    }
+}
+
+#[test]
+fn a_search_of_sides_that_have_ended_is_seen() {
+    is_seen(Fault { searches_ended_sides: true, ..NONE });
+}
+
+#[test]
+fn searches_that_leave_out_what_never_stands_alone_are_right() {
+    for (words, has) in RIGHT {
+        let found = planted(&|operation, lent| Fault { has, ..NONE }.run(operation, lent));
+        assert!(found.is_ok(), "{words}");
+    }
 }
 
 #[test]

@@ -80,7 +80,7 @@ fn by_tableau() -> Vec<Series> {
     let small = workshop(9);
     let steps = [64, 512, 4096];
     let judged = |pattern: &Pattern, tableau: Tableau| Case::tableau("", pattern, &tableau);
-    let searches = |lines| Fresh { rule: 5, lines, leaves: 32, names: 30 };
+    let searches = |lines| Fresh { rule: 5, lines, mixed: false, leaves: 32, names: 30 };
     vec![
         Series::new("tableau, exchanges", "steps", steps, |n| judged(&small, tableaux::exchanges(&small, n))),
         Series::new("tableau, forks and clashes", "steps", steps, |n| {

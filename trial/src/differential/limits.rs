@@ -1,18 +1,21 @@
 //! Document 01's limits, reached exactly and overstepped by one: which of them an input shows.
 
+use super::fresh::{Brought, Had};
 use crate::generate::input::{Input, Operation};
 use oracle::finding::Finding;
 use oracle::pattern;
-use oracle::tableau::rules::{says_clash, says_fork};
+use oracle::tableau::rules::{brings_name, says_clash, says_fork};
 use oracle::tableau::{self, HEADER_BYTES, STEP_BYTES};
 
 /// A limit in words, and whether an input with its finding shows it.
 pub type Limit = (&'static str, fn(&Judged) -> bool);
 
-/// An input with its finding.
+/// An input with its finding, and what that says of names that a tableau asks for.
 pub struct Judged<'a> {
     pub input: &'a Input,
     pub finding: Finding,
+    pub(super) had: Option<Had>,
+    pub(super) brought: Brought,
 }
 
 pub const LIMITS: [Limit; 53] = [
@@ -75,12 +78,16 @@ pub const LIMITS: [Limit; 53] = [
     ("tableau in 8,191 bytes refused 9", |it| it.in_area(Operation::Tableau, 8191)),
 ];
 
-/// Whether the step brings this name: its rule is 5 or 14.
+/// Whether the step brings this name.
 fn brings(step: &[u8], name: u8) -> bool {
-    matches!(step[0], 5 | 14) && step[5] == name
+    brings_name(step[0]) && step[5] == name
 }
 
 impl<'a> Judged<'a> {
+    pub fn new(input: &'a Input, finding: Finding) -> Judged<'a> {
+        Judged { input, finding, had: Had::of(input, finding), brought: Brought::of(input, finding) }
+    }
+
     pub(super) fn refused(&self, number: u16) -> bool {
         self.place(number).is_some()
     }
@@ -98,7 +105,7 @@ impl<'a> Judged<'a> {
         matches!(self.finding, Finding::Met { .. } | Finding::Unmet)
     }
 
-    fn closed(&self) -> bool {
+    pub(super) fn closed(&self) -> bool {
         matches!(self.finding, Finding::Closed { .. })
     }
 

@@ -1,7 +1,9 @@
-//! What a run must see: every finding, refusal, rule, limit and kind of input, and each name missing.
+//! What a run must see: every finding, refusal, rule, limit and kind of input, and each name refused in every
+//! way.
 
+use super::fresh::FRESH;
 use super::limits::LIMITS;
-use super::names::NAMES;
+use super::names::{EACH_NAME, NAMES};
 use super::tally::Tally;
 use crate::generate::input::{Kind, Operation};
 use oracle::pattern::MAX_NAME;
@@ -28,8 +30,10 @@ impl Tally {
         self.add_rules(&mut seen);
         seen.extend(LIMITS.map(|(limit, _)| (self.shown(limit), format!("limit: {limit}"))));
         seen.extend(NAMES.map(|(names, _)| (self.shown(names), format!("names: {names}"))));
-        for name in 0..=MAX_NAME.into() {
-            seen.push((self.unlisted.contains(&name).into(), format!("name {name} refused 27")));
+        seen.extend(FRESH.map(|(fresh, _)| (self.shown(fresh), format!("fresh names: {fresh}"))));
+        for (names, (what, _)) in self.names.iter().zip(EACH_NAME) {
+            let each = 0..=MAX_NAME.into();
+            seen.extend(each.map(|name| (names.contains(&name).into(), format!("name {name} {what}"))));
         }
         for operation in Operation::ALL {
             for (length, times) in self.short[operation as usize].iter().enumerate() {

@@ -1,4 +1,5 @@
-//! A pattern's names and those that a model lists: what an input shows of the two together.
+//! A pattern's names and those that a model lists: what an input shows of the two together; and what each
+//! name must show in a run.
 
 use super::limits::{Judged, Limit};
 use crate::generate::input::Never;
@@ -26,9 +27,20 @@ pub const NAMES: [Limit; 14] = [
     }),
 ];
 
+/// What a run must see of a name, in words, and the name of which an input shows it.
+pub type OfName = (&'static str, fn(&Judged) -> Option<usize>);
+
+/// What a run must see of each of the 128 names.
+pub const EACH_NAME: [OfName; 4] = [
+    ("refused 27", |it| it.place(27)),
+    ("refused 18", |it| it.at_start().map(|had| had.name.into())),
+    ("of the branch refused 22", |it| it.on_branch().map(|had| had.name.into())),
+    ("of the pattern refused 22", |it| it.in_pattern().map(|had| had.name.into())),
+];
+
 impl Judged<'_> {
     /// The names that the pattern uses, as a set of bits.
-    fn used(&self) -> u128 {
+    pub(super) fn used(&self) -> u128 {
         self.having_names().fold(0, |names, entry| names | 1 << entry[1])
     }
 

@@ -1,8 +1,9 @@
 //! The table that a run prints of its tally.
 
+use super::fresh::FRESH;
 use super::limits::{LIMITS, Limit};
 use super::missing::{refusals, words};
-use super::names::NAMES;
+use super::names::{EACH_NAME, NAMES};
 use super::tally::Tally;
 use crate::generate::input::{Kind, Operation};
 use std::fmt;
@@ -28,7 +29,8 @@ impl fmt::Display for Tally {
         }
         self.write_shown(f, "limits", &LIMITS)?;
         self.write_shown(f, "names that the pattern uses and those that the model lists", &NAMES)?;
-        writeln!(f, "{:>12}    of the 128 names refused 27", self.unlisted.len())?;
+        self.write_shown(f, "start names and fresh names", &FRESH)?;
+        self.write_each_name(f)?;
         writeln!(f, "files of 0 to 10 bytes")?;
         for operation in Operation::ALL {
             writeln!(
@@ -54,6 +56,14 @@ impl Tally {
         for number in refusals(operation) {
             let refused = self.refused[operation as usize][number];
             writeln!(f, "{:>12}    {number:>2} {:>12}", refused.times, refused.deepest)?;
+        }
+        Ok(())
+    }
+
+    fn write_each_name(&self, f: &mut fmt::Formatter<'_>) -> fmt::Result {
+        writeln!(f, "how many of the 128 names were so")?;
+        for (names, (what, _)) in self.names.iter().zip(EACH_NAME) {
+            writeln!(f, "{:>12}    {what}", names.len())?;
         }
         Ok(())
     }

@@ -1,7 +1,8 @@
 //! What occurred in a run: findings, refusals, rules and kinds of input.
 
+use super::fresh::FRESH;
 use super::limits::{Judged, LIMITS};
-use super::names::NAMES;
+use super::names::{EACH_NAME, NAMES};
 use crate::generate::input::{Input, Kind, Never, Operation};
 use oracle::finding::{Finding, Refusal};
 use oracle::tableau::{HEADER_BYTES, STEP_BYTES};
@@ -44,8 +45,8 @@ pub struct Tally {
     pub rules: [RuleUse; RULES + 1],
     /// Inputs that show a limit or something of names, by its words; none for what no input shows.
     pub limits: BTreeMap<&'static str, u64>,
-    /// The names that refusal 27 gave as its place.
-    pub unlisted: BTreeSet<u16>,
+    /// The names that showed what each must show.
+    pub names: [BTreeSet<usize>; EACH_NAME.len()],
     /// Files of 0 to 10 bytes: patterns, models and tableaux.
     pub short: [[u64; SHORT]; Operation::ALL.len()],
     /// Models judged unmet of a pattern with a closed tableau.
@@ -61,9 +62,13 @@ impl Tally {
     pub fn count(&mut self, input: &Input, finding: Finding) {
         self.inputs += 1;
         self.kinds[input.kind as usize] += 1;
-        let judged = Judged { input, finding };
-        for (limit, _) in LIMITS.iter().chain(&NAMES).filter(|(_, shows)| shows(&judged)) {
+        let judged = Judged::new(input, finding);
+        let situations = LIMITS.iter().chain(&NAMES).chain(&FRESH);
+        for (limit, _) in situations.filter(|(_, shows)| shows(&judged)) {
             *self.limits.entry(limit).or_default() += 1;
+        }
+        for (names, (_, shown_of)) in self.names.iter_mut().zip(EACH_NAME) {
+            names.extend(shown_of(&judged));
         }
         self.count_short(Operation::Reading, &input.pattern);
         if input.operation != Operation::Reading {
@@ -94,15 +99,9 @@ impl Tally {
         let refused = &mut self.refused[input.operation as usize][refusal.number as usize];
         refused.times += 1;
         refused.deepest = refused.deepest.max(refusal.place);
-        match refusal.number {
-            20..=22 => {
-                let rule = input.proposal[HEADER_BYTES + STEP_BYTES * refusal.place as usize];
-                self.rules[rule as usize].refused[refusal.number as usize - 20] += 1;
-            }
-            27 => {
-                self.unlisted.insert(refusal.place);
-            }
-            _ => {}
+        if let 20..=22 = refusal.number {
+            let rule = input.proposal[HEADER_BYTES + STEP_BYTES * refusal.place as usize];
+            self.rules[rule as usize].refused[refusal.number as usize - 20] += 1;
         }
     }
 
@@ -149,7 +148,9 @@ impl Tally {
         for (limit, times) in &other.limits {
             *self.limits.entry(limit).or_default() += times;
         }
-        self.unlisted.extend(&other.unlisted);
+        for (mine, theirs) in self.names.iter_mut().zip(&other.names) {
+            mine.extend(theirs);
+        }
         self.distinct.extend(&other.distinct);
     }
 

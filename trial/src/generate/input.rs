@@ -64,6 +64,7 @@ kinds! {
     TableauLimit "a tableau at a limit or one over"
     PlannedTableau "a planned tableau"
     MutatedPlannedTableau "a mutated planned tableau"
+    OtherName "a planned tableau that asks for another name"
     Exchanged "a proposal handed to the other judgement"
     Unrelated "unrelated bytes"
     ModelOfClosed "a model for a pattern with a closed tableau"

@@ -2,10 +2,11 @@
 //!
 //! `recipes` makes an input of each kind, of these parts: `patterns` and `crowd` make random patterns,
 //! `models` random models, `walk` random tableaux; `corpus` keeps what the planner found for them and for
-//! patterns that can't occur, which `contradiction` and `composition` make. `rename` and `mutate` change
-//! files, and `limits` writes those at document 01's limits. `area` is the working area.
+//! patterns that can't occur, which `contradiction` and `composition` make. `rename`, `asked` and `mutate`
+//! change files, and `limits` writes those at document 01's limits. `area` is the working area.
 
 pub mod area;
+mod asked;
 mod composition;
 mod contradiction;
 mod corpus;

@@ -7,25 +7,26 @@ use super::input::{Input, Kind, Never, Operation};
 use super::mutate::{Sort, mutate};
 use super::rename::Renaming;
 use super::walk::Walker;
-use super::{limits, models, patterns};
+use super::{asked, limits, models, patterns};
 use oracle::pattern::{self, Pattern};
 use oracle::random::Random;
 
 /// How many of a hundred inputs are of each kind.
-const SHARES: [(usize, Kind); 17] = [
+const SHARES: [(usize, Kind); 18] = [
     (4, Kind::ValidPattern),
-    (11, Kind::MutatedPattern),
-    (6, Kind::PatternLimit),
-    (9, Kind::ValidModel),
-    (8, Kind::MutatedModel),
+    (8, Kind::MutatedPattern),
+    (5, Kind::PatternLimit),
+    (8, Kind::ValidModel),
+    (7, Kind::MutatedModel),
     (4, Kind::ModelLimit),
     (4, Kind::PlannedModel),
     (6, Kind::MutatedPlannedModel),
-    (8, Kind::WalkedTableau),
-    (11, Kind::WrongStep),
+    (7, Kind::WalkedTableau),
+    (10, Kind::WrongStep),
     (3, Kind::TableauLimit),
-    (6, Kind::PlannedTableau),
-    (9, Kind::MutatedPlannedTableau),
+    (5, Kind::PlannedTableau),
+    (8, Kind::MutatedPlannedTableau),
+    (10, Kind::OtherName),
     (2, Kind::Exchanged),
     (2, Kind::Unrelated),
     (4, Kind::ModelOfClosed),
@@ -58,6 +59,7 @@ pub fn make(random: &mut Random, corpus: &Corpus, input: &mut Input) {
             input.operation = Operation::Tableau;
         }
         Kind::PlannedTableau | Kind::MutatedPlannedTableau => planned_tableau(random, corpus, input),
+        Kind::OtherName => other_name(random, corpus, input),
         Kind::Exchanged => exchanged(random, corpus, input),
         Kind::Unrelated => unrelated(random, corpus, input),
         Kind::ModelOfClosed => model_of_closed(random, corpus, input),
@@ -143,16 +145,39 @@ fn planned_model(random: &mut Random, corpus: &Corpus, input: &mut Input) {
 }
 
 fn planned_tableau(random: &mut Random, corpus: &Corpus, input: &mut Input) {
-    input.operation = Operation::Tableau;
     let planned = any(random, &corpus.closed);
     input.pattern.clone_from(&planned.pattern_file);
+    closed_tableau(random, planned, input);
+    if input.kind == Kind::MutatedPlannedTableau {
+        mutate(random, Sort::Tableau, &mut input.proposal);
+    }
+}
+
+/// The closed tableau of a plan, renamed together with the pattern.
+fn closed_tableau(random: &mut Random, planned: &Planned, input: &mut Input) {
+    input.operation = Operation::Tableau;
     input.proposal.clone_from(&planned.proposal_file);
     let renaming = Renaming::random(random);
     renaming.pattern(&mut input.pattern);
     renaming.tableau(&mut input.proposal);
-    if input.kind == Kind::MutatedPlannedTableau {
-        mutate(random, Sort::Tableau, &mut input.proposal);
-    }
+}
+
+/// A closed tableau that brings names, with another start name or with another name that a step brings. Its
+/// pattern has one more name; that of another start name is now and then a random one.
+fn other_name(random: &mut Random, corpus: &Corpus, input: &mut Input) {
+    let brings = |planned: &&Planned| asked::brought(&planned.proposal_file).next().is_some();
+    let bringing: Vec<&Planned> = corpus.closed.iter().filter(brings).collect();
+    let planned = random.pick(&bringing);
+    let (at_start, unrelated) = (random.once_in(3), random.once_in(4));
+    let pattern = if at_start && unrelated {
+        patterns::random(random)
+    } else {
+        asked::with_name(random, &planned.pattern)
+    };
+    input.pattern = pattern.to_bytes();
+    closed_tableau(random, planned, input);
+    let ask = if at_start { asked::start } else { asked::fresh };
+    ask(random, &input.pattern, &mut input.proposal);
 }
 
 /// A walk on a pattern with a closed tableau, which it sometimes closes, or on a crowded or random one.

@@ -128,7 +128,7 @@ fn mutated_models() {
 #[test]
 fn mutated_tableaux() {
     let pattern = workshop(40);
-    let fresh = Fresh { rule: 5, lines: 10, leaves: 5, names: 4 };
+    let fresh = Fresh { rule: 5, lines: 10, mixed: false, leaves: 5, names: 4 };
     let shapes = [
         tableaux::exchanges(&pattern, 100),
         tableaux::forks(&pattern, 100),
@@ -136,6 +136,7 @@ fn mutated_tableaux() {
         tableaux::right_nested(&pattern, 30),
         tableaux::fresh(&pattern, fresh),
         tableaux::fresh(&pattern, Fresh { rule: 14, ..fresh }),
+        tableaux::fresh(&pattern, Fresh { mixed: true, ..fresh }),
     ];
     for tableau in shapes {
         agree_mutated(&Case::tableau("workshop", &pattern, &tableau), 500);

@@ -1,5 +1,6 @@
 //! Judges with a fault planted in them.
 
+pub mod fresh;
 pub mod model;
 pub mod names;
 pub mod tableau;

@@ -19,6 +19,12 @@ pub struct Fault {
     pub keeps_left_lines: bool,
     /// Whether the first clash closes the tableau.
     pub closes_at_once: bool,
+    /// Whether it takes the pattern to use a name.
+    pub uses: fn(&Pattern, u8) -> bool,
+    /// Whether it takes a branch to have a name.
+    pub has: fn(&[Line], u8) -> bool,
+    /// Whether it searches the lines of sides that have ended, too.
+    pub searches_ended_sides: bool,
 }
 
 pub const NONE: Fault = Fault {
@@ -26,36 +32,49 @@ pub const NONE: Fault = Fault {
     alters: |_, conclusion| conclusion,
     keeps_left_lines: false,
     closes_at_once: false,
+    uses: Pattern::uses,
+    has: |branch, name| branch.iter().any(|line| line.has_name(name)),
+    searches_ended_sides: false,
 };
 
 /// Where it stands in a tableau.
 struct Stand {
     branch: Vec<Line>,
     waiting: Vec<(usize, Line)>,
+    /// The lines of sides that have ended.
+    ended: Vec<Line>,
     open: bool,
     most: usize,
 }
 
 impl Fault {
-    /// The faulty judge as an implementation: everything but the steps is left to the oracle.
+    /// The faulty judge as an implementation: everything but the start name and the steps is left to the
+    /// oracle.
     pub fn run(self, operation: Operation, lent: Lent) -> Finding {
         let (pattern, proposal) = (lent.pattern.to_vec(), lent.proposal.to_vec());
         match (operation, run_oracle(operation, lent)) {
-            (Operation::Tableau, Finding::Refused(refusal)) if refusal.number < 19 => {
+            (Operation::Tableau, Finding::Refused(refusal)) if refusal.number < 18 => {
                 Finding::Refused(refusal)
             }
-            (Operation::Tableau, _) => {
-                let pattern = pattern::parse(&pattern).expect("it was read");
-                let tableau = tableau::parse(&pattern, &proposal).expect("its steps were walked");
-                self.walk(&pattern, &tableau)
-            }
+            (Operation::Tableau, _) => self.judge(&pattern, &proposal),
             (_, finding) => finding,
+        }
+    }
+
+    /// Refusal 18, and what is found of the steps.
+    fn judge(self, pattern: &[u8], proposal: &[u8]) -> Finding {
+        let pattern = pattern::parse(pattern).expect("it was read");
+        let without_names = Pattern { entries: Vec::new() };
+        match tableau::parse(&without_names, proposal) {
+            Ok(tableau) if !(self.uses)(&pattern, tableau.start) => self.walk(&pattern, &tableau),
+            _ => Finding::Refused(Refusal { number: 18, place: 0 }),
         }
     }
 
     fn walk(self, pattern: &Pattern, tableau: &Tableau) -> Finding {
         let root = Line::Has { holds: true, name: tableau.start, entry: pattern.entries.len() - 1 };
-        let mut stand = Stand { branch: vec![root], waiting: Vec::new(), open: true, most: 0 };
+        let (waiting, ended) = (Vec::new(), Vec::new());
+        let mut stand = Stand { branch: vec![root], waiting, ended, open: true, most: 0 };
         for (place, step) in tableau.steps.iter().enumerate() {
             if let Err(number) = self.take(pattern, &mut stand, step) {
                 return Finding::Refused(Refusal { number, place: place as u16 });
@@ -75,7 +94,9 @@ impl Fault {
         if !stand.open {
             return Err(25);
         }
-        let applied = rules::apply(pattern, &stand.branch, step);
+        let fitting = rules::fit(pattern, &stand.branch, step);
+        let stale = rules::brings_name(step.rule) && self.is_stale(pattern, stand, step.argument);
+        let applied = if stale { fitting.and(Err(22)) } else { fitting };
         let conclusion = applied.or_else(|number| match number {
             21 | 22 => (self.accepts)(pattern, &stand.branch, step).ok_or(number),
             _ => Err(number),
@@ -97,10 +118,17 @@ impl Fault {
         if stand.branch.len() > 1024 { Err(23) } else { Ok(()) }
     }
 
+    fn is_stale(self, pattern: &Pattern, stand: &Stand, name: u8) -> bool {
+        (self.uses)(pattern, name)
+            || (self.has)(&stand.branch, name)
+            || self.searches_ended_sides && (self.has)(&stand.ended, name)
+    }
+
     fn leave(self, stand: &mut Stand) -> Result<(), u16> {
         stand.most = stand.most.max(stand.branch.len());
         match stand.waiting.pop() {
             Some((lines, right)) => {
+                stand.ended.extend(&stand.branch[lines..]);
                 if !self.keeps_left_lines {
                     stand.branch.truncate(lines);
                 }

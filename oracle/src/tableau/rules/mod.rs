@@ -42,15 +42,20 @@ struct Premises {
 
 /// Refusals 19 to 22 (by number), or the conclusion of the step on a branch with these lines.
 pub fn apply(pattern: &Pattern, branch: &[Line], step: &Step) -> Result<Conclusion, u16> {
-    if !(1..=23).contains(&step.rule) {
-        return Err(19);
-    }
-    let premises = premises(branch, step).ok_or(20u16)?;
-    let conclusion = conclude(pattern, premises, step).ok_or(21u16)?;
+    let conclusion = fit(pattern, branch, step)?;
     if brings_name(step.rule) && !is_fresh(pattern, branch, step.argument) {
         return Err(22);
     }
     Ok(conclusion)
+}
+
+/// Refusals 19 to 21 (by number), or the conclusion of the step, be its name fresh or not.
+pub fn fit(pattern: &Pattern, branch: &[Line], step: &Step) -> Result<Conclusion, u16> {
+    if !(1..=23).contains(&step.rule) {
+        return Err(19);
+    }
+    let premises = premises(branch, step).ok_or(20u16)?;
+    conclude(pattern, premises, step).ok_or(21)
 }
 
 /// The lines used, or `None` for "a used line not on the branch or an unused field not zero" (20).
@@ -85,7 +90,7 @@ fn uses_argument(rule: u8) -> bool {
 }
 
 /// Whether the argument is a name that must be fresh.
-fn brings_name(rule: u8) -> bool {
+pub fn brings_name(rule: u8) -> bool {
     matches!(rule, 5 | 14)
 }
 

@@ -5,6 +5,7 @@ use super::script::Script;
 use super::typical;
 use crate::benchmark::case::Case;
 use oracle::pattern::{Comparison, Entry, Pattern};
+use oracle::random::Random;
 use oracle::tableau::Tableau;
 
 const START: u8 = 0;
@@ -84,6 +85,15 @@ impl<'a> Work<'a> {
         }
     }
 
+    /// So many lines in no order: comparisons, and lines of has.
+    fn mix(&mut self, times: usize) {
+        let mut random = Random::new(1, 0);
+        for _ in 0..times {
+            let (rule, line) = random.pick(&[(8, self.comparison), (1, self.never)]);
+            self.script.use_line(rule, line);
+        }
+    }
+
     /// Brings so many new names, by rule 5 or 14.
     fn name(&mut self, rule: u8, names: u8) {
         let premise = if rule == 5 { self.after } else { self.comparison };
@@ -158,8 +168,10 @@ pub fn right_nested(pattern: &Pattern, forks: usize) -> Tableau {
 pub struct Fresh {
     /// 5 or 14.
     pub rule: u8,
-    /// Exchanges before the forks.
+    /// Lines before the forks.
     pub lines: usize,
+    /// Whether they are of two forms, in no order; otherwise they are exchanges.
+    pub mixed: bool,
     pub leaves: usize,
     /// New names on each leaf.
     pub names: u8,
@@ -167,15 +179,19 @@ pub struct Fresh {
 
 pub fn fresh(pattern: &Pattern, fresh: Fresh) -> Tableau {
     let mut work = Work::new(pattern);
-    work.exchange(fresh.lines);
+    if fresh.mixed {
+        work.mix(fresh.lines);
+    } else {
+        work.exchange(fresh.lines);
+    }
     work.tree(fresh.leaves - 1, &|leaf: &mut Work| leaf.name(fresh.rule, fresh.names));
     work.script.tableau()
 }
 
-const MANY_LEAVES: Fresh = Fresh { rule: 5, lines: 400, leaves: 512, names: 3 };
+const MANY_LEAVES: Fresh = Fresh { rule: 5, lines: 400, mixed: false, leaves: 512, names: 3 };
 
 /// The most searches for a name, on nearly the longest branches, that 4,096 steps allow.
-const LONGEST_SEARCHES: Fresh = Fresh { rule: 5, lines: 900, leaves: 60, names: 51 };
+const LONGEST_SEARCHES: Fresh = Fresh { rule: 5, lines: 900, mixed: false, leaves: 60, names: 51 };
 
 /// The tableau with another last step, which doesn't fit.
 fn spoiled(mut tableau: Tableau) -> Tableau {
@@ -209,10 +225,12 @@ pub fn cases() -> Vec<Case> {
 pub fn deep_cases() -> Vec<Case> {
     let (small, large) = (&workshop(9), &workshop(255));
     let fourteen = Fresh { rule: 14, ..LONGEST_SEARCHES };
+    let mixed = Fresh { mixed: true, ..LONGEST_SEARCHES };
     vec![
         judged("64 forks nested left", small, |pattern| left_nested(pattern, 64)),
         judged("1,014 forks nested right", small, |pattern| right_nested(pattern, 1014)),
         judged("fresh names, 900 lines", small, |pattern| fresh(pattern, LONGEST_SEARCHES)),
+        judged("fresh names, mixed lines", small, |pattern| fresh(pattern, mixed)),
         judged("fresh names, 255 entries", large, |pattern| fresh(pattern, LONGEST_SEARCHES)),
         judged("the same by rule 14", large, |pattern| fresh(pattern, fourteen)),
     ]

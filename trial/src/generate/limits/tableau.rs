@@ -1,8 +1,9 @@
 //! Tableaux at the limits: short files, step counts, lines on a branch, right sides that wait.
 //!
-//! They are for one pattern, "p and q, and not both", whose tableau can grow at will: with lines 1
+//! They are mostly for one pattern, "p and q, and not both", whose tableau can grow at will: with lines 1
 //! (p and q), 2 (not both) and 5 (lacks both) on the branch, a step may add one line or two, fork, or
-//! clash, at any time.
+//! clash, at any time. For another, "p after axis 0, and same over it", it can bring
+//! names by lines 1 (after) and 3 (the comparison).
 
 use super::{cut_short, misjudge_length, spoil_header};
 use crate::generate::mutate::{Sort, mutate};
@@ -17,6 +18,13 @@ const PATTERN: &[u8] = b"PAT\x01\x00\x05\
     \x03\x02\x00\x00\
     \x04\x02\x03\x00";
 
+const NAMING: &[u8] = b"PAT\x01\x00\x05\
+    \x01\x00\x00\x00\
+    \x05\x00\x00\x00\
+    \x08\x00\xff\x00\
+    \x06\x00\x02\xff\
+    \x04\x01\x03\x00";
+
 /// The steps that lead to the six lines: p and q; not both; p; q; lacks both.
 const BEGINNING: [Step; 3] = [step(2, 0, 0), step(2, 1, 0), step(1, 2, 0)];
 const LINES: usize = 6;
@@ -30,11 +38,15 @@ const fn step(rule: u8, p: u16, q: u16) -> Step {
 }
 
 /// Writes the pattern, and a tableau file for it at a limit or one over: a large one, now and then
-/// mutated, or the smallest one, spoiled.
+/// mutated, or the smallest one, spoiled; now and then one that brings names to a long branch.
 pub fn tableau(random: &mut Random, pattern: &mut Vec<u8>, file: &mut Vec<u8>) {
     pattern.clear();
     pattern.extend(PATTERN);
-    if random.once_in(2) {
+    if random.once_in(8) {
+        pattern.clear();
+        pattern.extend(NAMING);
+        *file = late_name(random).to_bytes();
+    } else if random.once_in(2) {
         let steps = match random.below(8) {
             0..3 => most_lines(random),
             3..6 => most_waiting(random),
@@ -137,4 +149,20 @@ fn to_the_right(random: &mut Random) -> Vec<Step> {
     steps.extend([FORK, CLASH].repeat(forks));
     steps.push(CLASH);
     steps
+}
+
+/// A name brought to a branch of up to 1,020 lines; then, with up to 1,022 on it, the same name again, or the
+/// start name, or one that is fresh.
+fn late_name(random: &mut Random) -> Tableau {
+    let [start, name] = [0; 2].map(|_| random.below(128) as u8);
+    let both_parts = step(2, 0, 0);
+    let before = random.between(0, 508);
+    let behind = if random.once_in(2) { 0 } else { random.between(0, 508 - before) };
+    let mut bring = |argument| Step { argument, ..random.pick(&[step(5, 1, 0), step(14, 3, 0)]) };
+    let mut steps = vec![both_parts, step(7, 2, 0)];
+    steps.extend([both_parts].repeat(before));
+    steps.push(bring(name));
+    steps.extend([both_parts].repeat(behind));
+    steps.push(bring([name, name, start, name ^ 64][before % 4]));
+    Tableau { start, steps }
 }

@@ -58,7 +58,7 @@ impl Walker<'_> {
     /// A step whose argument is at the end of its range or over it: a name, a channel or a place.
     fn border_argument(&self, random: &mut Random) -> Option<Step> {
         let (wanted, arguments): (fn(u8) -> bool, _) = match random.below(3) {
-            0 => (|rule| matches!(rule, 5 | 14), [127, 128, 255]),
+            0 => (rules::brings_name, [127, 128, 255]),
             1 => (|rule| rule == 18, [3, 4, 255]),
             _ => (|rule| rule == 19, [1, 2, 255]),
         };
@@ -68,7 +68,7 @@ impl Walker<'_> {
 
     /// A step of rule 5 or 14 that fits but for its name, which the branch has or the pattern uses.
     fn stale(&self, random: &mut Random) -> Option<Step> {
-        let step = self.guess_of(random, |rule| matches!(rule, 5 | 14))?;
+        let step = self.guess_of(random, rules::brings_name)?;
         let (line, used) = (self.walk.branch()[self.line(random)], random.once_in(4));
         let stale = |&name: &u8| if used { self.pattern.uses(name) } else { line.has_name(name) };
         (0..128).find(stale).map(|argument| Step { argument, ..step })
