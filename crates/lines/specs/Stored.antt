@@ -1,7 +1,7 @@
 -- Lines in lent bytes, eight a line.
 -- Assumes nothing.
 use mathlib.Core.Path.{_≡_, refl, sym, ap, _∙_}
-use mathlib.Core.Bool.{Bool, true, false, not, _||_, or-false}
+use mathlib.Core.Bool.{false, not, _&&_, _||_, or-false, and-false, and-true}
 use mathlib.Core.List.{List, [], _∷_, _++_}
 use Prim.Native.Nat.{ℕ, zero, suc, _+_, _-_, _*_, _≤_, _<_}
 use native.Mathlib.Nat.{not-suc-le-zero, le-of-suc-le-suc, le-refl, add-zero, zero-add}
@@ -9,7 +9,6 @@ use native.Mathlib.Omega.{arith}
 use native.Mathlib.Numerals.{add-one}
 use lib.Dec.{eqb}
 use lib.ListN.{length, getD}
-use Rattle.wire.specs.Choice.{pick}
 use Rattle.wire.specs.Blocks.{putFrom, length-from, from-out, from-in, apart}
 use Rattle.pattern.specs.declared.types.Channel.{Channel}
 use Rattle.pattern.specs.declared.types.Sign.{Sign}
@@ -98,24 +97,15 @@ pub compared-names : (xs : List ℕ) (k i : ℕ) → 2 < getD xs (8 * k) 0
 unfolding lineAt
 compared-names xs k i h = rw (form-beyond (getD xs (8 * k) 0) _ _ _ _ _ _ _ (λ e. omega (arith, h, e)) (λ e. omega (arith, h, e)) (λ e. omega (arith, h, e))) refl
 
-two-names : (u t : Bool) → u || t ≡ pick t (u || true) u
-two-names u true = refl
-two-names u false = or-false u
-
 -- those of the other forms at bytes 2 and 3; a line of the first form has one
-form-names : (n b c d e f g h i : ℕ) → n ≤ 2 → lineHas (lineOfForm n b c d e f g h) i ≡ pick (eqb d i) (eqb c i || not (eqb n 0)) (eqb c i)
-form-names zero b c d e f g h i l = one (eqb d i) (eqb c i)
-  where
-    one : (t u : Bool) → u ≡ pick t (u || false) u
-    one true u = sym (or-false u)
-    one false u = refl
-form-names (suc zero) b c d e f g h i l = two-names (eqb c i) (eqb d i)
-form-names (suc (suc zero)) b c d e f g h i l = two-names (eqb c i) (eqb d i)
+form-names : (n b c d e f g h i : ℕ) → n ≤ 2 → lineHas (lineOfForm n b c d e f g h) i ≡ eqb c i || (eqb d i && not (eqb n 0))
+form-names zero b c d e f g h i l = rw (and-false (eqb d i)) (sym (or-false (eqb c i)))
+form-names (suc zero) b c d e f g h i l = rw (and-true (eqb d i)) refl
+form-names (suc (suc zero)) b c d e f g h i l = rw (and-true (eqb d i)) refl
 form-names (suc (suc (suc n))) b c d e f g h i l = absurd (omega (arith, l))
 
 pub other-names : (xs : List ℕ) (k i : ℕ) → getD xs (8 * k) 0 ≤ 2
-    → lineHas (lineAt xs k) i
-    ≡ pick (eqb (getD xs (8 * k + 3) 0) i) (eqb (getD xs (8 * k + 2) 0) i || not (eqb (getD xs (8 * k) 0) 0)) (eqb (getD xs (8 * k + 2) 0) i)
+    → lineHas (lineAt xs k) i ≡ eqb (getD xs (8 * k + 2) 0) i || (eqb (getD xs (8 * k + 3) 0) i && not (eqb (getD xs (8 * k) 0) 0))
 unfolding lineAt
 other-names xs k i h = form-names (getD xs (8 * k) 0) _ _ _ _ _ _ _ i h
 

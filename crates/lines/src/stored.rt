@@ -174,12 +174,18 @@ pub fn line_has(area: &[u8], k: usize, name: Name) -> bool
     let at = 8 * k;
     let n = name.number;
     if 2 < area[at] {
-        return (area[at + 4] == n) | (area[at + 6] == n);
+        if area[at + 4] == n {
+            return true;
+        }
+        return area[at + 6] == n;
+    }
+    if area[at + 2] == n {
+        return true;
     }
     if area[at + 3] == n {
-        return (area[at + 2] == n) | (area[at] != 0);
+        return area[at] != 0;
     }
-    area[at + 2] == n
+    false
 }
 
 // Line k of the area becomes this one.
