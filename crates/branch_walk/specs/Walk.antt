@@ -48,9 +48,9 @@ advanceOf k len Conclusion.Clash = Advance.Stopped (Stop.Clash k len)
 
 -- ---- the walk
 
--- What the walk is lent: a pattern of n entries, the bytes of s steps of which the next is step k, and an area with a branch of len lines.
-pub record WalkLent (bs : List ℕ) (n : ℕ) (ss : List ℕ) (s : ℕ) (xs : List ℕ) (k len : ℕ) : Type 0 where
-  pub standing : AtStep bs n xs len
+-- What the walk is lent: a pattern, the bytes of s steps of which the next is step k, and an area with a branch of len lines.
+pub record WalkLent (bs ss : List ℕ) (s : ℕ) (xs : List ℕ) (k len : ℕ) : Type 0 where
+  pub standing : AtStep bs xs len
   pub steps-long : length ss ≡ 6 * s
   pub few-steps : s ≤ maxSteps
   pub area-long : length xs ≡ areaNeed
@@ -66,8 +66,8 @@ abbrev pub Leaves : List ℕ → ℕ → List ℕ → Type 0
 Leaves xs len ys = (j : ℕ) → j < len → lineAt ys j ≡ lineAt xs j
 
 -- From step k and the branch of len lines in xs, steps that add lines lead to step k′ and the branch of len′ lines in ys.
-pub record Onto (bs : List ℕ) (n : ℕ) (ss : List ℕ) (s : ℕ) (xs : List ℕ) (k len : ℕ) (ys : List ℕ) (k′ len′ : ℕ) : Type 0 where
-  pub lent : WalkLent bs n ss s ys k′ len′
+pub record Onto (bs ss : List ℕ) (s : ℕ) (xs : List ℕ) (k len : ℕ) (ys : List ℕ) (k′ len′ : ℕ) : Type 0 where
+  pub lent : WalkLent bs ss s ys k′ len′
   pub later : k ≤ k′
   pub longer : len ≤ len′
   pub leaves : Leaves xs len ys
@@ -84,23 +84,23 @@ abbrev pub StepConcludes : List ℕ → List ℕ → ℕ → List ℕ → ℕ �
 StepConcludes bs ss s xs k len c = (k < s) × (stepping bs (linesFrom xs 0 len) (stepAt ss k) k ≡ found c)
 
 -- the straight part of a branch ends so
-abbrev pub StopSays : List ℕ → ℕ → List ℕ → ℕ → List ℕ → ℕ → ℕ → Stop → List ℕ → Type 0
-StopSays bs n ss s xs k len (Stop.Clash k′ len′) ys = Onto bs n ss s xs k len ys k′ len′ × StepConcludes bs ss s ys k′ len′ Conclusion.Clash
-StopSays bs n ss s xs k len (Stop.Fork k′ len′ l r) ys =
-    Onto bs n ss s xs k len ys k′ len′ × (StepConcludes bs ss s ys k′ len′ (Conclusion.Fork l r) × (len′ < maxLines))
-StopSays bs n ss s xs k len (Stop.Refused refusal) ys = Refuses bs ss s xs k len refusal
+abbrev pub StopSays : List ℕ → List ℕ → ℕ → List ℕ → ℕ → ℕ → Stop → List ℕ → Type 0
+StopSays bs ss s xs k len (Stop.Clash k′ len′) ys = Onto bs ss s xs k len ys k′ len′ × StepConcludes bs ss s ys k′ len′ Conclusion.Clash
+StopSays bs ss s xs k len (Stop.Fork k′ len′ l r) ys =
+    Onto bs ss s xs k len ys k′ len′ × (StepConcludes bs ss s ys k′ len′ (Conclusion.Fork l r) × (len′ < maxLines))
+StopSays bs ss s xs k len (Stop.Refused refusal) ys = Refuses bs ss s xs k len refusal
 
 -- StopSays computes by the case of the stop, and a law can't find its arguments under it: the record keeps them. So do Advances and Walks.
-pub record Stops (bs : List ℕ) (n : ℕ) (ss : List ℕ) (s : ℕ) (xs : List ℕ) (k len : ℕ) (stop : Stop) (ys : List ℕ) : Type 0 where
-  pub says : StopSays bs n ss s xs k len stop ys
+pub record Stops (bs ss : List ℕ) (s : ℕ) (xs : List ℕ) (k len : ℕ) (stop : Stop) (ys : List ℕ) : Type 0 where
+  pub says : StopSays bs ss s xs k len stop ys
 
 -- one step leads on, or ends the straight part
-abbrev pub AdvanceSays : List ℕ → ℕ → List ℕ → ℕ → List ℕ → ℕ → ℕ → Advance → List ℕ → Type 0
-AdvanceSays bs n ss s xs k len (Advance.Grown len′) ys = Onto bs n ss s xs k len ys (k + 1) len′
-AdvanceSays bs n ss s xs k len (Advance.Stopped stop) ys = Stops bs n ss s xs k len stop ys
+abbrev pub AdvanceSays : List ℕ → List ℕ → ℕ → List ℕ → ℕ → ℕ → Advance → List ℕ → Type 0
+AdvanceSays bs ss s xs k len (Advance.Grown len′) ys = Onto bs ss s xs k len ys (k + 1) len′
+AdvanceSays bs ss s xs k len (Advance.Stopped stop) ys = Stops bs ss s xs k len stop ys
 
-pub record Advances (bs : List ℕ) (n : ℕ) (ss : List ℕ) (s : ℕ) (xs : List ℕ) (k len : ℕ) (advance : Advance) (ys : List ℕ) : Type 0 where
-  pub says : AdvanceSays bs n ss s xs k len advance ys
+pub record Advances (bs ss : List ℕ) (s : ℕ) (xs : List ℕ) (k len : ℕ) (advance : Advance) (ys : List ℕ) : Type 0 where
+  pub says : AdvanceSays bs ss s xs k len advance ys
 
 -- what is counted before step k: each step counts once at most
 pub record Bounded (k : ℕ) (c : Counts) : Type 0 where

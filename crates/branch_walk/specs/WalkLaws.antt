@@ -14,7 +14,7 @@ use Rattle.pattern.specs.Checks.Finding.{Finding, found, refused, onward, there
 use Rattle.wire.specs.Cleared.{cleared}
 use Rattle.pattern.specs.declared.types.Name.{Name}
 use Rattle.pattern.specs.declared.types.Sign.{Sign}
-use Rattle.pattern.specs.File.Reading.{readingOf}
+use Rattle.pattern.specs.File.Reading.{countOf, readingOf}
 use Rattle.pattern.specs.File.Valid.{Valid, valid}
 use Rattle.lines.specs.declared.line.Line.{Line}
 use Rattle.steps.specs.declared.step.Step.{Step}
@@ -164,28 +164,28 @@ side-leaves xs len l ys h = λ j i. h j (omega (arith, i)) ∙ put-other xs len 
 one-waits : {waiting i : ℕ} → i ≡ waiting → suc i ≡ waiting + 1
 one-waits e = omega (arith, e)
 
-module _ {bs : List ℕ} {n : ℕ} {ss : List ℕ} {s : ℕ} where
+module _ {bs ss : List ℕ} {s : ℕ} where
   -- ---- what the walk is lent, as lines are added
 
   -- what a step concludes is formed
-  concludes-formed : {xs : List ℕ} {k len : ℕ} → WalkLent bs n ss s xs k len → (con : Conclusion)
-      → stepping bs (linesFrom xs 0 len) (stepAt ss k) k ≡ found con → FormedConclusion bs n con
+  concludes-formed : {xs : List ℕ} {k len : ℕ} → WalkLent bs ss s xs k len → (con : Conclusion)
+      → stepping bs (linesFrom xs 0 len) (stepAt ss k) k ≡ found con → FormedConclusion bs (countOf bs) con
   concludes-formed {xs} {k} {len} lent con e =
       let b = linesFrom xs 0 len in
-      step-formed (valid bs n (lent .standing .pattern-read)) b
-      (lines-formed bs n xs 0 len (λ j l m. lent .standing .formed j (omega (arith, m)))) (stepAt ss k) con
+      step-formed (valid bs (countOf bs) (lent .standing .pattern-read)) b
+      (lines-formed bs (countOf bs) xs 0 len (λ j l m. lent .standing .formed j (omega (arith, m)))) (stepAt ss k) con
       (found-follows bs b (stepAt ss k) con k e)
 
   -- other bytes with the same lines, and another step
-  lent-kept : {xs : List ℕ} {k len : ℕ} → WalkLent bs n ss s xs k len → (ys : List ℕ) (k′ : ℕ)
-      → length ys ≡ length xs → Leaves xs len ys → k′ ≤ s → WalkLent bs n ss s ys k′ len
+  lent-kept : {xs : List ℕ} {k len : ℕ} → WalkLent bs ss s xs k len → (ys : List ℕ) (k′ : ℕ)
+      → length ys ≡ length xs → Leaves xs len ys → k′ ≤ s → WalkLent bs ss s ys k′ len
   lent-kept {xs} {k} {len} lent ys k′ same leaves left =
       record {
         standing = record {
           pattern-read = lent .standing .pattern-read;
           some-line = lent .standing .some-line;
           room = rw same (lent .standing .room);
-          formed = λ j l. subst (Formed bs n) (sym (leaves j l)) (lent .standing .formed j l);
+          formed = λ j l. subst (Formed bs (countOf bs)) (sym (leaves j l)) (lent .standing .formed j l);
         };
         steps-long = lent .steps-long;
         few-steps = lent .few-steps;
@@ -195,8 +195,8 @@ module _ {bs : List ℕ} {n : ℕ} {ss : List ℕ} {s : ℕ} where
       }
 
   -- a line more, and another step
-  lent-more : {xs : List ℕ} {k len : ℕ} → WalkLent bs n ss s xs k len → (l : Line) (k′ : ℕ)
-      → Formed bs n l → len < maxLines → k′ ≤ s → WalkLent bs n ss s (putLine xs len l) k′ (len + 1)
+  lent-more : {xs : List ℕ} {k len : ℕ} → WalkLent bs ss s xs k len → (l : Line) (k′ : ℕ)
+      → Formed bs (countOf bs) l → len < maxLines → k′ ≤ s → WalkLent bs ss s (putLine xs len l) k′ (len + 1)
   lent-more {xs} {k} {len} lent l k′ f m left =
       record {
         standing = record {
@@ -218,20 +218,20 @@ module _ {bs : List ℕ} {n : ℕ} {ss : List ℕ} {s : ℕ} where
       room : 8 * (len + 1) ≤ length (putLine xs len l)
       room = rw (length-put xs len l) fits
 
-      go : (j : ℕ) → j < len + 1 → (t : Bool) → ltb j len ≡ t → Formed bs n (lineAt (putLine xs len l) j)
+      go : (j : ℕ) → j < len + 1 → (t : Bool) → ltb j len ≡ t → Formed bs (countOf bs) (lineAt (putLine xs len l) j)
       go j i true e =
-          subst (Formed bs n) (sym (put-other xs len j l (λ q. omega (arith, ltb-true j len e, q)))) (lent .standing .formed j (ltb-true j len e))
+          subst (Formed bs (countOf bs)) (sym (put-other xs len j l (λ q. omega (arith, ltb-true j len e, q)))) (lent .standing .formed j (ltb-true j len e))
       go j i false e =
           let q = le-antisymm (omega (arith, i)) (ltb-false j len e) in
-          subst (λ (m : ℕ). Formed bs n (lineAt (putLine xs len l) m)) (sym q) (subst (Formed bs n) (sym (put-same xs len l fits)) f)
+          subst (λ (m : ℕ). Formed bs (countOf bs) (lineAt (putLine xs len l) m)) (sym q) (subst (Formed bs (countOf bs)) (sym (put-same xs len l fits)) f)
 
   -- several lines more
-  lent-lines : {xs : List ℕ} {k len : ℕ} → WalkLent bs n ss s xs k len → (new : List Line) (k′ : ℕ)
-      → AllFormed bs n new → len + length new ≤ maxLines → k′ ≤ s → WalkLent bs n ss s (putLines xs len new) k′ (len + length new)
+  lent-lines : {xs : List ℕ} {k len : ℕ} → WalkLent bs ss s xs k len → (new : List Line) (k′ : ℕ)
+      → AllFormed bs (countOf bs) new → len + length new ≤ maxLines → k′ ≤ s → WalkLent bs ss s (putLines xs len new) k′ (len + length new)
   lent-lines {xs} {k} {len} lent [] k′ f m left =
-      subst (WalkLent bs n ss s xs k′) (sym (add-zero len)) (lent-kept lent xs k′ refl (λ j i. refl) left)
+      subst (WalkLent bs ss s xs k′) (sym (add-zero len)) (lent-kept lent xs k′ refl (λ j i. refl) left)
   lent-lines {xs} {k} {len} lent (l ∷ ls) k′ f m left =
-      subst (WalkLent bs n ss s (putLines (putLine xs len l) (len + 1) ls) k′) place
+      subst (WalkLent bs ss s (putLines (putLine xs len l) (len + 1) ls) k′) place
       (lent-lines (lent-more lent l k′ (f .0) (omega (arith, m)) left) ls k′ (f .1) (omega (arith, m)) left)
     where
       place : len + 1 + length ls ≡ len + suc (length ls)
@@ -240,13 +240,13 @@ module _ {bs : List ℕ} {n : ℕ} {ss : List ℕ} {s : ℕ} where
   -- ---- one step
 
   -- nothing is done
-  onto-here : {xs : List ℕ} {k len : ℕ} → WalkLent bs n ss s xs k len → Onto bs n ss s xs k len xs k len
+  onto-here : {xs : List ℕ} {k len : ℕ} → WalkLent bs ss s xs k len → Onto bs ss s xs k len xs k len
   onto-here {len = len} lent =
       record { lent = lent; later = le-refl _; longer = le-refl len; leaves = λ j l. refl; same = λ ws c. refl }
 
   -- one way after another
   onto-then : {xs : List ℕ} {k len : ℕ} {ys : List ℕ} {k′ len′ : ℕ} {zs : List ℕ} {k″ len″ : ℕ}
-      → Onto bs n ss s xs k len ys k′ len′ → Onto bs n ss s ys k′ len′ zs k″ len″ → Onto bs n ss s xs k len zs k″ len″
+      → Onto bs ss s xs k len ys k′ len′ → Onto bs ss s ys k′ len′ zs k″ len″ → Onto bs ss s xs k len zs k″ len″
   onto-then a b =
       record {
         lent = b .lent;
@@ -257,8 +257,8 @@ module _ {bs : List ℕ} {n : ℕ} {ss : List ℕ} {s : ℕ} where
       }
 
   -- a step that goes on with one side
-  onto-side : {xs : List ℕ} {k len : ℕ} → WalkLent bs n ss s xs k len → (con : Conclusion) (new : List Line) → sides con ≡ new ∷ []
-      → StepConcludes bs ss s xs k len con → len + length new ≤ maxLines → Onto bs n ss s xs k len (putLines xs len new) (k + 1) (len + length new)
+  onto-side : {xs : List ℕ} {k len : ℕ} → WalkLent bs ss s xs k len → (con : Conclusion) (new : List Line) → sides con ≡ new ∷ []
+      → StepConcludes bs ss s xs k len con → len + length new ≤ maxLines → Onto bs ss s xs k len (putLines xs len new) (k + 1) (len + length new)
   onto-side {xs} {k} {len} lent con new one h m =
       record {
         lent = lent-lines lent new (k + 1) (formed .0) m (omega (arith, h .0));
@@ -274,13 +274,13 @@ module _ {bs : List ℕ} {n : ℕ} {ss : List ℕ} {s : ℕ} where
             (sym (push-lines xs len new (rw (lent .area-long) (omega (arith, m)))));
       }
     where
-      formed : EachFormed bs n (new ∷ [])
-      formed = subst (EachFormed bs n) one (concludes-formed lent con (h .1))
+      formed : EachFormed bs (countOf bs) (new ∷ [])
+      formed = subst (EachFormed bs (countOf bs)) one (concludes-formed lent con (h .1))
 
   -- a step that follows its rule and keeps to 1,024 lines
-  pub step-concludes : {xs : List ℕ} {k len : ℕ} → WalkLent bs n ss s xs k len → (con : Conclusion)
+  pub step-concludes : {xs : List ℕ} {k len : ℕ} → WalkLent bs ss s xs k len → (con : Conclusion)
       → StepConcludes bs ss s xs k len con → len + longest (sides con) ≤ maxLines
-      → Advances bs n ss s xs k len (advanceOf k len con) (pushed xs len con)
+      → Advances bs ss s xs k len (advanceOf k len con) (pushed xs len con)
   step-concludes lent (Conclusion.One l) h m = record { says = onto-side lent (Conclusion.One l) (l ∷ []) refl h m }
   step-concludes lent (Conclusion.Two l o) h m = record { says = onto-side lent (Conclusion.Two l o) (l ∷ o ∷ []) refl h m }
   step-concludes lent (Conclusion.New i l o) h m = record { says = onto-side lent (Conclusion.New i l o) (l ∷ o ∷ []) refl h m }
@@ -288,19 +288,19 @@ module _ {bs : List ℕ} {n : ℕ} {ss : List ℕ} {s : ℕ} where
   step-concludes lent Conclusion.Clash h m = record { says = record { says = (onto-here lent, h) } }
 
   -- a step over the limit, and one that is refused by its rule
-  pub step-long : {xs : List ℕ} {k len : ℕ} → WalkLent bs n ss s xs k len → (con : Conclusion)
+  pub step-long : {xs : List ℕ} {k len : ℕ} → WalkLent bs ss s xs k len → (con : Conclusion)
       → StepConcludes bs ss s xs k len con → maxLines < len + longest (sides con) → {ys : List ℕ}
-      → Advances bs n ss s xs k len (Advance.Stopped (Stop.Refused (WalkRefusal.Lines k))) ys
+      → Advances bs ss s xs k len (Advance.Stopped (Stop.Refused (WalkRefusal.Lines k))) ys
   step-long {xs} {k} {len} lent con h m =
       record {
         says =
             record { says = λ ws c. run-long bs ss s k (linesFrom xs 0 len) ws c con (h .0) (h .1) (rw (length-lines xs 0 len) m) };
       }
 
-  pub step-refused : {xs : List ℕ} {k len : ℕ} → WalkLent bs n ss s xs k len
+  pub step-refused : {xs : List ℕ} {k len : ℕ} → WalkLent bs ss s xs k len
       → (answer : StepAnswer) (refusal : StepRefusal) → answer ≡ StepAnswer.Refused refusal → k < s
       → answerOf answer ≡ stepping bs (linesFrom xs 0 len) (stepAt ss k) k → {ys : List ℕ}
-      → Advances bs n ss s xs k len (Advance.Stopped (Stop.Refused (WalkRefusal.Step refusal))) ys
+      → Advances bs ss s xs k len (Advance.Stopped (Stop.Refused (WalkRefusal.Step refusal))) ys
   step-refused {xs} {k} {len} lent answer refusal q h e =
       record {
         says = record { says = λ ws c. run-refused bs ss s k (linesFrom xs 0 len) ws c _ _ h (sym e ∙ ap answerOf q) };
@@ -309,21 +309,21 @@ module _ {bs : List ℕ} {n : ℕ} {ss : List ℕ} {s : ℕ} where
   -- ---- the straight part of a branch
 
   pub straight-grows : {xs : List ℕ} {k len : ℕ} {ys : List ℕ} {k′ len′ : ℕ} {zs : List ℕ} {len″ : ℕ}
-      → Onto bs n ss s xs k len ys k′ len′ → Advances bs n ss s ys k′ len′ (Advance.Grown len″) zs → Onto bs n ss s xs k len zs (k′ + 1) len″
+      → Onto bs ss s xs k len ys k′ len′ → Advances bs ss s ys k′ len′ (Advance.Grown len″) zs → Onto bs ss s xs k len zs (k′ + 1) len″
   straight-grows a h = onto-then a (h .says)
 
   pub straight-stops : {xs : List ℕ} {k len : ℕ} {ys : List ℕ} {k′ len′ : ℕ} {zs : List ℕ} {stop : Stop}
-      → Onto bs n ss s xs k len ys k′ len′ → Advances bs n ss s ys k′ len′ (Advance.Stopped stop) zs → Stops bs n ss s xs k len stop zs
+      → Onto bs ss s xs k len ys k′ len′ → Advances bs ss s ys k′ len′ (Advance.Stopped stop) zs → Stops bs ss s xs k len stop zs
   straight-stops {xs} {k} {len} {ys} {k′} {len′} {zs} {stop} a h = record { says = go stop (h .says .says) }
     where
-      go : (stop : Stop) → StopSays bs n ss s ys k′ len′ stop zs → StopSays bs n ss s xs k len stop zs
+      go : (stop : Stop) → StopSays bs ss s ys k′ len′ stop zs → StopSays bs ss s xs k len stop zs
       go (Stop.Clash i j) h = (onto-then a (h .0), h .1)
       go (Stop.Fork i j l r) h = (onto-then a (h .0), h .1)
       go (Stop.Refused refusal) h = λ ws c. a .same ws c ∙ h ws c
 
   -- no step is left
   pub straight-open : {xs : List ℕ} {k len : ℕ} {ys : List ℕ} {k′ len′ : ℕ}
-      → Onto bs n ss s xs k len ys k′ len′ → s ≤ k′ → Stops bs n ss s xs k len (Stop.Refused (WalkRefusal.StillOpen s)) ys
+      → Onto bs ss s xs k len ys k′ len′ → s ≤ k′ → Stops bs ss s xs k len (Stop.Refused (WalkRefusal.StillOpen s)) ys
   straight-open {xs} {k} {len} {ys} {k′} {len′} a h =
       record {
         says = λ ws c. a .same ws c ∙ run-open bs ss s k′ (linesFrom ys 0 len′) ws c h ∙ ap (refused 26) (le-antisymm (a .lent .steps-left) h);
@@ -333,12 +333,12 @@ module _ {bs : List ℕ} {n : ℕ} {ss : List ℕ} {s : ℕ} where
 
   -- the straight part is refused
   pub walk-refused : {xs : List ℕ} {k len waiting : ℕ} {c : Counts} {refusal : WalkRefusal} {ys : List ℕ}
-      → Stops bs n ss s xs k len (Stop.Refused refusal) ys → Walks bs ss s xs k len waiting c (BranchEnd.Refused refusal) ys
+      → Stops bs ss s xs k len (Stop.Refused refusal) ys → Walks bs ss s xs k len waiting c (BranchEnd.Refused refusal) ys
   walk-refused {c = c} h = record { says = λ ws w. h .says ws c }
 
   -- the branch ends with a clash
   pub walk-clash : {xs : List ℕ} {k len waiting : ℕ} {c : Counts} {k′ len′ : ℕ} {ys : List ℕ}
-      → Bounded k c → Stops bs n ss s xs k len (Stop.Clash k′ len′) ys
+      → Bounded k c → Stops bs ss s xs k len (Stop.Clash k′ len′) ys
       → Walks bs ss s xs k len waiting c (BranchEnd.Closed (k′ + 1) (countClash len′ c)) ys
   walk-clash {xs} {k} {len} {waiting} {c} {k′} {len′} {ys} few h =
       let onto = h .says .0 in
@@ -364,7 +364,7 @@ module _ {bs : List ℕ} {n : ℕ} {ss : List ℕ} {s : ℕ} where
 
   -- "24, fork with 64 right sides already waiting"
   pub walk-crowded : {xs : List ℕ} {k len waiting : ℕ} {c : Counts} {k′ len′ : ℕ} {l r : Line}
-      {ys : List ℕ} → Stops bs n ss s xs k len (Stop.Fork k′ len′ l r) ys → maxWaiting ≤ waiting
+      {ys : List ℕ} → Stops bs ss s xs k len (Stop.Fork k′ len′ l r) ys → maxWaiting ≤ waiting
       → Walks bs ss s xs k len waiting c (BranchEnd.Refused (WalkRefusal.Waiting k′)) ys
   walk-crowded {xs} {k} {len} {waiting} {c} {k′} {len′} {l} {r} {ys} h m =
       let onto = h .says .0 in
@@ -378,7 +378,7 @@ module _ {bs : List ℕ} {n : ℕ} {ss : List ℕ} {s : ℕ} where
 
   -- the left side is lent the branch with its line
   pub left-lent : {xs : List ℕ} {k len : ℕ} {k′ len′ : ℕ} {l r : Line} {ys : List ℕ}
-      → Stops bs n ss s xs k len (Stop.Fork k′ len′ l r) ys → WalkLent bs n ss s (putLine ys len′ l) (k′ + 1) (len′ + 1)
+      → Stops bs ss s xs k len (Stop.Fork k′ len′ l r) ys → WalkLent bs ss s (putLine ys len′ l) (k′ + 1) (len′ + 1)
   left-lent {k′ = k′} {l = l} {r = r} h =
       let lent = h .says .0 .lent in
       let concludes = h .says .1 .0 in
@@ -386,7 +386,7 @@ module _ {bs : List ℕ} {n : ℕ} {ss : List ℕ} {s : ℕ} where
 
   -- what is counted at the left side
   pub fork-bounded : {xs : List ℕ} {k len : ℕ} {c : Counts} {k′ len′ : ℕ} {l r : Line} {ys : List ℕ}
-      → Bounded k c → Stops bs n ss s xs k len (Stop.Fork k′ len′ l r) ys → Bounded (k′ + 1) (countFork c)
+      → Bounded k c → Stops bs ss s xs k len (Stop.Fork k′ len′ l r) ys → Bounded (k′ + 1) (countFork c)
   fork-bounded few h =
       let later = h .says .0 .later in
       record {
@@ -397,9 +397,9 @@ module _ {bs : List ℕ} {n : ℕ} {ss : List ℕ} {s : ℕ} where
 
   -- the right side, once the left is closed, is lent the branch with its own line
   pub right-lent : {xs : List ℕ} {k len : ℕ} {k′ len′ : ℕ} {l r : Line} {ys : List ℕ}
-      → Stops bs n ss s xs k len (Stop.Fork k′ len′ l r) ys → {waiting : ℕ} {c : Counts} {next : ℕ} {c′ : Counts} {zs : List ℕ}
+      → Stops bs ss s xs k len (Stop.Fork k′ len′ l r) ys → {waiting : ℕ} {c : Counts} {next : ℕ} {c′ : Counts} {zs : List ℕ}
       → Walks bs ss s (putLine ys len′ l) (k′ + 1) (len′ + 1) waiting c (BranchEnd.Closed next c′) zs → length zs ≡ length ys
-      → WalkLent bs n ss s (putLine zs len′ r) next (len′ + 1)
+      → WalkLent bs ss s (putLine zs len′ r) next (len′ + 1)
   right-lent {len′ = len′} {l = l} {r = r} {ys = ys} h {next = next} {zs = zs} left e =
       let lent = h .says .0 .lent in
       let closed = left .says in
@@ -408,7 +408,7 @@ module _ {bs : List ℕ} {n : ℕ} {ss : List ℕ} {s : ℕ} where
 
   -- a fork: both sides are open, the left one first
   fork-open : {xs : List ℕ} {k len : ℕ} {k′ len′ : ℕ} {l r : Line} {ys : List ℕ}
-      → Stops bs n ss s xs k len (Stop.Fork k′ len′ l r) ys → (c : Counts) (ws : List (List Line)) → length ws < maxWaiting
+      → Stops bs ss s xs k len (Stop.Fork k′ len′ l r) ys → (c : Counts) (ws : List (List Line)) → length ws < maxWaiting
       → remaining bs ss s k (linesFrom xs 0 len ∷ ws) c
       ≡ remaining bs ss s (k′ + 1) (linesFrom (putLine ys len′ l) 0 (len′ + 1) ∷ (linesFrom ys 0 len′ ++ r ∷ []) ∷ ws) (countFork c)
   fork-open {xs} {k} {len} {k′} {len′} {l} {r} {ys} h c ws w =
@@ -424,7 +424,7 @@ module _ {bs : List ℕ} {n : ℕ} {ss : List ℕ} {s : ℕ} where
 
   -- a refusal on the left side
   pub walk-left-refused : {xs : List ℕ} {k len waiting : ℕ} {c : Counts} {k′ len′ : ℕ} {l r : Line}
-      {ys : List ℕ} → Stops bs n ss s xs k len (Stop.Fork k′ len′ l r) ys → waiting < maxWaiting → {refusal : WalkRefusal} {zs : List ℕ}
+      {ys : List ℕ} → Stops bs ss s xs k len (Stop.Fork k′ len′ l r) ys → waiting < maxWaiting → {refusal : WalkRefusal} {zs : List ℕ}
       → Walks bs ss s (putLine ys len′ l) (k′ + 1) (len′ + 1) (waiting + 1) (countFork c) (BranchEnd.Refused refusal) zs
       → Walks bs ss s xs k len waiting c (BranchEnd.Refused refusal) zs
   walk-left-refused {c = c} {len′ = len′} {r = r} {ys = ys} h m left =
@@ -432,14 +432,14 @@ module _ {bs : List ℕ} {n : ℕ} {ss : List ℕ} {s : ℕ} where
 
   -- both sides: what the right side finds is what the branch finds
   pub walk-right : {xs : List ℕ} {k len waiting : ℕ} {c : Counts} {k′ len′ : ℕ} {l r : Line}
-      {ys : List ℕ} → Stops bs n ss s xs k len (Stop.Fork k′ len′ l r) ys → waiting < maxWaiting → {next : ℕ} {c′ : Counts} {zs : List ℕ}
+      {ys : List ℕ} → Stops bs ss s xs k len (Stop.Fork k′ len′ l r) ys → waiting < maxWaiting → {next : ℕ} {c′ : Counts} {zs : List ℕ}
       → Walks bs ss s (putLine ys len′ l) (k′ + 1) (len′ + 1) (waiting + 1) (countFork c) (BranchEnd.Closed next c′) zs
       → length zs ≡ length ys → {ending : BranchEnd} {us : List ℕ} → Walks bs ss s (putLine zs len′ r) next (len′ + 1) waiting c′ ending us
       → Walks bs ss s xs k len waiting c ending us
   walk-right {xs} {k} {len} {waiting} {c} {k′} {len′} {l} {r} {ys} h m {next} {c′} {zs} left e {ending} {us} right =
       record { says = go ending (right .says) }
     where
-      onto : Onto bs n ss s xs k len ys k′ len′
+      onto : Onto bs ss s xs k len ys k′ len′
       onto = h .says .0
 
       closed : ClosedAt bs ss s (putLine ys len′ l) (k′ + 1) (len′ + 1) (waiting + 1) (countFork c) next c′ zs
@@ -477,15 +477,16 @@ module _ {bs : List ℕ} {n : ℕ} {ss : List ℕ} {s : ℕ} where
 
 -- "Line 0 is: start name has the root": what the walk is lent at first
 pub first-lent : {bs : List ℕ} {n : ℕ} {ss : List ℕ} {s : ℕ} (xs : List ℕ) (i : Name) → readingOf bs ≡ found n → length ss ≡ 6 * s → s ≤ maxSteps
-    → length xs ≡ areaNeed → WalkLent bs n ss s (putLine xs 0 (has Sign.Positive i (n - 1))) 0 1
+    → length xs ≡ areaNeed → WalkLent bs ss s (putLine xs 0 (has Sign.Positive i (n - 1))) 0 1
 first-lent {bs} {n} {ss} {s} xs i read long few room =
     record {
       standing = record {
-        pattern-read = read;
+        pattern-read = subst (λ (m : ℕ). readingOf bs ≡ found m) (sym (ok .count-is)) read;
         some-line = omega arith;
         room = rw (length-put xs 0 line, room) (omega arith);
         formed = λ j l.
-            subst (λ (k : ℕ). Formed bs n (lineAt (putLine xs 0 line) k)) (first j l) (subst (Formed bs n) (sym (put-same xs 0 line fits)) root);
+            subst (λ (k : ℕ). Formed bs (countOf bs) (lineAt (putLine xs 0 line) k)) (first j l)
+            (subst (Formed bs (countOf bs)) (sym (put-same xs 0 line fits)) root);
       };
       steps-long = long;
       few-steps = few;
@@ -506,7 +507,7 @@ first-lent {bs} {n} {ss} {s} xs i read long few room =
     ok : Valid bs n
     ok = valid bs n read
 
-    root : Formed bs n line
+    root : Formed bs (countOf bs) line
     root = (omega (arith, ok .header .some-entry, ok .count-is), ok .root-node)
 
 pub none-bounded : Bounded 0 none

@@ -25,7 +25,7 @@ ghost use Prim.Native.Nat.{ℕ, _+_, _*_, _≤_, _<_};
 ghost use lib.ListN.{length, replicate};
 ghost use Rattle.wire.specs.Cleared.{cleared};
 ghost use Rattle.pattern.specs.Checks.Finding.{found};
-ghost use Rattle.pattern.specs.File.Reading.{countOf, readingOf};
+ghost use Rattle.pattern.specs.File.Reading.{readingOf};
 ghost use Rattle.pattern.specs.Meaning.Names.{usesName};
 ghost use Rattle.names.specs.Set.{SetOf};
 ghost use Rattle.lines.specs.Stored.{putLine};
@@ -117,10 +117,10 @@ fn take_step(
     k: u16,
     len: u16,
 ) -> Advance
-    requires { ⌜ WalkLent (now p) (countOf (now p)) (now steps) s (now area) k len ⌝ }
+    requires { ⌜ WalkLent (now p) (now steps) s (now area) k len ⌝ }
     requires { ⌜ SetOf (usesName (now p)) used ⌝ }
     requires { ⌜ k < s ⌝ }
-    ensures { λ r. ⌜ Advances (now (p .entry)) (countOf (now (p .entry))) (now (steps .entry)) s (now (area .entry)) k len r (now (area .exit)) ⌝ }
+    ensures { λ r. ⌜ Advances (now (p .entry)) (now (steps .entry)) s (now (area .entry)) k len r (now (area .exit)) ⌝ }
 {
     let step = Step::at(steps, k as usize);
     let answer = take(p, used, area, len as usize, step, k);
@@ -148,9 +148,9 @@ fn straight(
     k: u16,
     len: u16,
 ) -> Stop
-    requires { ⌜ WalkLent (now p) (countOf (now p)) (now steps) s (now area) k len ⌝ }
+    requires { ⌜ WalkLent (now p) (now steps) s (now area) k len ⌝ }
     requires { ⌜ SetOf (usesName (now p)) used ⌝ }
-    ensures { λ r. ⌜ Stops (now (p .entry)) (countOf (now (p .entry))) (now (steps .entry)) s (now (area .entry)) k len r (now (area .exit)) ⌝ }
+    ensures { λ r. ⌜ Stops (now (p .entry)) (now (steps .entry)) s (now (area .entry)) k len r (now (area .exit)) ⌝ }
 {
     let mut i = k;
     let mut lines = len;
@@ -181,7 +181,7 @@ fn walk(
     waiting: u8,
     counts: Counts,
 ) -> BranchEnd
-    requires { ⌜ WalkLent (now p) (countOf (now p)) (now steps) s (now area) k len ⌝ }
+    requires { ⌜ WalkLent (now p) (now steps) s (now area) k len ⌝ }
     requires { ⌜ SetOf (usesName (now p)) used ⌝ }
     requires { ⌜ waiting ≤ maxWaiting ⌝ }
     requires { ⌜ Bounded k counts ⌝ }
@@ -195,8 +195,8 @@ fn walk(
                 return BranchEnd::Refused(WalkRefusal::Waiting(at));
             }
             store(area, lines as usize, left);
-            let sum = with_fork(counts);
-            let first = walk(p, used, steps, s, area, at + 1, lines + 1, waiting + 1, sum);
+            let new = with_fork(counts);
+            let first = walk(p, used, steps, s, area, at + 1, lines + 1, waiting + 1, new);
             match first {
                 BranchEnd::Refused(refusal) => BranchEnd::Refused(refusal),
                 BranchEnd::Closed(next, counted) => {

@@ -3,11 +3,12 @@ use crate::stored::line_has;
 use names::NameSet;
 use pattern::types::Name;
 ghost use mathlib.Core.Path.{_≡_};
-ghost use mathlib.Core.Bool.{not, _||_};
-ghost use Prim.Native.Nat.{_*_, _≤_};
+ghost use mathlib.Core.List.{List};
+ghost use Prim.Native.Nat.{ℕ, _*_, _≤_};
 ghost use lib.ListN.{length};
-ghost use Rattle.names.specs.Set.{has};
-ghost use Rattle.lines.specs.Lines.{branchHas};
+ghost use Rattle.pattern.specs.Meaning.Names.{usesName};
+ghost use Rattle.names.specs.Set.{SetOf};
+ghost use Rattle.lines.specs.Lines.{branchHas, isFresh};
 ghost use Rattle.lines.specs.Stored.{linesFrom};
 
 // Whether a branch of so many lines has the name: "a branch has a name if its first line has it or the
@@ -29,7 +30,7 @@ fn branch_has(area: &[u8], len: usize, name: Name) -> bool
 // Whether the name is fresh on a branch of so many lines, for a pattern that uses these names.
 pub fn is_fresh(used: NameSet, area: &[u8], len: usize, name: Name) -> bool
     requires { ⌜ 8 * len ≤ length (now area) ⌝ }
-    ensures { λ r. ⌜ r ≡ not (has used (name .number) || branchHas (linesFrom (now (area .entry)) 0 len) (name .number)) ⌝ }
+    ensures { λ r. ⌜ ((bs : List ℕ) → SetOf (usesName bs) used → r ≡ isFresh bs (linesFrom (now (area .entry)) 0 len) (name .number)) ⌝ }
 {
     if used.has(name.number) {
         return false;

@@ -7,19 +7,19 @@ use Prim.Native.Nat.{ℕ, _+_, _*_, _≤_, _<_}
 use native.Mathlib.Omega.{arith}
 use lib.ListN.{length}
 use Rattle.pattern.specs.Checks.Finding.{found}
-use Rattle.pattern.specs.File.Reading.{readingOf}
+use Rattle.pattern.specs.File.Reading.{countOf, readingOf}
 use Rattle.steps.specs.declared.step.Step.{Step}
 use Rattle.lines.specs.Formed.{Formed}
 use Rattle.lines.specs.Stored.{lineAt, linesFrom, length-lines}
 use Rattle.steps.specs.Steps.{fieldFault, placed-on}
 use Rattle.steps.specs.Forms.{LineWithin, formed-within}
 
--- a pattern's bytes, its number of entries, the bytes of the area, and how many lines the branch has
-pub record AtStep (bs : List ℕ) (n : ℕ) (xs : List ℕ) (len : ℕ) : Type 0 where
-  pub pattern-read : readingOf bs ≡ found n
+-- a pattern's bytes, the bytes of the area, and how many lines the branch has
+pub record AtStep (bs xs : List ℕ) (len : ℕ) : Type 0 where
+  pub pattern-read : readingOf bs ≡ found (countOf bs)
   pub some-line : 0 < len
   pub room : 8 * len ≤ length xs
-  pub formed : (j : ℕ) → j < len → Formed bs n (lineAt xs j)
+  pub formed : (j : ℕ) → j < len → Formed bs (countOf bs) (lineAt xs j)
 
 -- the same, as far as a rule needs it to read the entries of its lines: the branch has lines, they are in the area, and their entries in the file
 pub record Readable (bs xs : List ℕ) (len : ℕ) : Type 0 where
@@ -27,12 +27,12 @@ pub record Readable (bs xs : List ℕ) (len : ℕ) : Type 0 where
   pub room : 8 * len ≤ length xs
   pub within : (j : ℕ) → j < len → LineWithin bs (lineAt xs j)
 
-pub readable : {bs xs : List ℕ} {n len : ℕ} → AtStep bs n xs len → Readable bs xs len
-readable {bs} {xs} {n} at-step =
+pub readable : {bs xs : List ℕ} {len : ℕ} → AtStep bs xs len → Readable bs xs len
+readable {bs} {xs} at-step =
     record {
       some-line = at-step .some-line;
       room = at-step .room;
-      within = λ j l. formed-within bs n (at-step .pattern-read) (lineAt xs j) (at-step .formed j l);
+      within = λ j l. formed-within bs (countOf bs) (at-step .pattern-read) (lineAt xs j) (at-step .formed j l);
     }
 
 -- the lines P and Q of a step without fault are on the branch

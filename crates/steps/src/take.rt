@@ -17,7 +17,6 @@ ghost use mathlib.Core.List.{List};
 ghost use Prim.Native.Nat.{ℕ, _*_, _≤_};
 ghost use lib.Dec.{ltb};
 ghost use lib.ListN.{length};
-ghost use Rattle.pattern.specs.File.Reading.{countOf};
 ghost use Rattle.pattern.specs.Meaning.Names.{usesName};
 ghost use Rattle.names.specs.Set.{SetOf};
 ghost use Rattle.lines.specs.declared.line.Line.{Line};
@@ -95,7 +94,7 @@ fn is_stale(used: NameSet, area: &[u8], len: usize, conclusion: Conclusion) -> b
 
 // Step k, which is s, on a branch of so many lines, for a pattern that was read and uses these names.
 pub fn take(p: &[u8], used: NameSet, area: &[u8], len: usize, s: Step, k: u16) -> StepAnswer
-    requires { ⌜ AtStep (now p) (countOf (now p)) (now area) len ⌝ }
+    requires { ⌜ AtStep (now p) (now area) len ⌝ }
     requires { ⌜ SetOf (usesName (now p)) used ⌝ }
     ensures { λ r. ⌜ answerOf r ≡ stepping (now (p .entry)) (linesFrom (now (area .entry)) 0 len) s k ⌝ }
 {

@@ -31,6 +31,10 @@ impl Aliases {
 
     /// The name that is kept of all those that are one node with this one.
     pub fn kept(&self, name: u8) -> u8 {
-        self.of[name as usize].map_or(name, |alias| self.kept(alias.stands_for))
+        let mut kept = name;
+        while let Some(alias) = self.of[kept as usize] {
+            kept = alias.stands_for;
+        }
+        kept
     }
 }

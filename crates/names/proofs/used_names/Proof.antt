@@ -38,7 +38,7 @@ with-name-of-requires : tie.Need-with-name-of-requires Inv-loop μ-loop
 with-name-of-requires c κs =
     let l = c .before .before in
     subst (λ (e : Entry). bearsName (e .kind) ≡ true → e .x ≤ maxName) (sym (c .at .ensures))
-    (name-at (ok (l .before .before .before)) (l .loop .k) (c .before .loop-test .taken))
+    (name-at (ok (l .before .before .before)) (l .loop .k) (search needs))
 
 add-k : tie.Need-add-k Inv-loop μ-loop
 add-k c = search needs

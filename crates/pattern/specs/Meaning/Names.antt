@@ -98,7 +98,7 @@ pub name-at : {bs : List ℕ} {n : ℕ} → Valid bs n → (k : ℕ) → k < n �
 name-at {bs} ok k l = name-within (entryAt bs k .kind) (within-at ok k l .0)
 
 module _ {bs : List ℕ} {n : ℕ} (ok : Valid bs n) (i : ℕ) where
-  pub uses-at : (k : ℕ) → k < n → entryUses bs i k ≡ true → usesName bs i ≡ true
+  uses-at : (k : ℕ) → k < n → entryUses bs i k ≡ true → usesName bs i ≡ true
   unfolding usesName
   uses-at k l h = some-at (entryUses bs i) (countOf bs) k (rw (ok .count-is) l) h
 

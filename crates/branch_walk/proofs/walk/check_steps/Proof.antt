@@ -21,7 +21,7 @@ store-requires c κs = search needs
 walk-requires : tie.Need-walk-requires
 walk-requires c κs =
     let s = c .before .before .before .before .before .before .before .before in (
-      rw (c .before .before .before .store .ensures, valid _ _ (s .pre .0) .count-is)
+      rw (c .before .before .before .store .ensures)
           (first-lent (s .args .area .now) (s .args .start) (s .pre .0) (s .pre .1 .1 .0 .0) (s .pre .1 .1 .0 .1) (s .pre .1 .1 .1)),
       (s .pre .1 .0, (search needs, none-bounded)),
     )

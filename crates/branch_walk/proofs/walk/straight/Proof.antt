@@ -2,14 +2,13 @@
 -- Assumes nothing.
 use borrow.Author.Needs.{needs}
 use Prim.Native.Nat.{_-_}
-use Rattle.pattern.specs.File.Reading.{countOf}
 use Rattle.branch_walk.specs.Walk.{Onto}
 use Rattle.branch_walk.specs.WalkLaws.{straight-grows, straight-stops, straight-open}
 use Rattle.branch_walk.proofs.walk.straight.Statement.{statement}
 use Rattle.branch_walk.proofs.walk.straight.Tie as tie
 
 abbrev Inv-loop : tie.InvT-loop
-Inv-loop p used steps s area₀ k len i₀ lines₀ area i lines = Onto p (countOf p) steps s area₀ k len area i lines
+Inv-loop p used steps s area₀ k len i₀ lines₀ area i lines = Onto p steps s area₀ k len area i lines
 
 abbrev μ-loop : tie.MeasureT-loop
 μ-loop p used steps s area₀ k len i₀ lines₀ area i lines = s - i

@@ -1,4 +1,4 @@
--- `lines::fresh::is_fresh` meets its contract: its two tests in turn.
+-- `lines::fresh::is_fresh` meets its contract: the two tests of `isFresh` in turn.
 -- Assumes nothing.
 use mathlib.Core.Path.{refl, sym, _∙_}
 use borrow.Author.Needs.{needs}
@@ -9,13 +9,13 @@ has-requires : tie.Need-has-requires
 has-requires c κs = search needs
 
 returns : tie.Need-returns
-returns c = rw (sym (c .before .has .ensures) ∙ c .if1 .taken) refl
+returns c bs uses = rw (sym (uses _) ∙ sym (c .before .has .ensures) ∙ c .if1 .taken) refl
 
 branch-has-requires : tie.Need-branch-has-requires
 branch-has-requires c κs = search needs
 
 returns-2 : tie.Need-returns-2
-returns-2 c = rw (sym (c .before .before .has .ensures) ∙ c .before .if1 .left, c .branch-has .ensures) refl
+returns-2 c bs uses = rw (sym (uses _) ∙ sym (c .before .before .has .ensures) ∙ c .before .if1 .left, c .branch-has .ensures) refl
 
 pub is-fresh-spec : {M : Type 1} → statement M
 is-fresh-spec = tie.close (tie.spec has-requires returns branch-has-requires returns-2)

@@ -31,7 +31,7 @@ returns-2 : tie.Need-returns-2
 returns-2 c bs uses = rw (c .enum-told2 .given .1) refl
 
 returns-3 : tie.Need-returns-3
-returns-3 c bs uses = rw (c .before .before .conclusion .given .1, c .is-fresh .ensures, uses _) (sym (or-false _))
+returns-3 c bs uses = rw (c .before .before .conclusion .given .1, c .is-fresh .ensures bs uses) (sym (or-false _))
 
 returns-4 : tie.Need-returns-4
 returns-4 c bs uses = rw (c .enum-told3 .given .1) refl

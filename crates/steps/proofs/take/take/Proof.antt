@@ -6,7 +6,7 @@ use mathlib.Core.Bool.{Bool, false}
 use borrow.Author.Tests.{not-true, not-false}
 use Rattle.rules.specs.Rules.{ruleAt, isUnknown}
 use Rattle.lines.specs.Stored.{linesFrom, length-lines}
-use Rattle.steps.specs.Steps.{fieldFault, stepping}
+use Rattle.steps.specs.Steps.{fieldFault, isStale, stepping}
 use Rattle.steps.specs.AtStep.{readable}
 use borrow.Author.Needs.{needs}
 use Rattle.steps.proofs.take.take.Statement.{statement}
@@ -58,6 +58,15 @@ returns-3 c =
 is-stale-requires : tie.Need-is-stale-requires
 is-stale-requires c κs = search needs
 
+stale : (c : tie.After-is-stale) {t : Bool}
+    → c .is-stale .result ≡ t
+    → let f = c .before .before in
+    let a = f .before .before .before .before .before .before .before .before .before .args in
+    isStale (a .p .now) (linesFrom (a .area .now) 0 (a .len)) (f .conclusion .given .0 .0) ≡ t
+stale c h =
+    let f = c .before .before in
+    sym (c .is-stale .ensures _ (f .before .before .before .before .before .before .before .before .before .pre .1)) ∙ h
+
 returns-4 : tie.Need-returns-4
 unfolding stepping
 returns-4 c =
@@ -68,7 +77,7 @@ returns-4 c =
       known (e .before .before),
       fields (e .before) (e .if2 .left),
       sym (o .step-outcome .ensures) ∙ f .conclusion .given .1,
-      sym (c .before .is-stale .ensures _ (e .before .before .before .before .before .before .pre .1)) ∙ c .if3 .taken,
+      stale (c .before) (c .if3 .taken),
     ) refl
 
 returns-5 : tie.Need-returns-5
@@ -81,7 +90,7 @@ returns-5 c =
       known (e .before .before),
       fields (e .before) (e .if2 .left),
       sym (o .step-outcome .ensures) ∙ f .conclusion .given .1,
-      sym (c .before .is-stale .ensures _ (e .before .before .before .before .before .before .pre .1)) ∙ c .if3 .left,
+      stale (c .before) (c .if3 .left),
     ) refl
 
 pub take-spec : {M : Type 1} → statement M

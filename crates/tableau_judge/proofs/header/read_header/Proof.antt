@@ -4,10 +4,16 @@
 use borrow.Author.Needs.{needs}
 use borrow.Author.Tests.{lt-ltb, le-ltb, eq-eqb, ne-eqb, not-true, not-false}
 use mathlib.Core.Path.{_≡_, sym, _∙_}
-use mathlib.Core.Bool.{true, false}
+use mathlib.Core.Bool.{Bool, true, false}
+use mathlib.Core.List.{List}
+use Prim.Native.Nat.{ℕ}
 use lib.ListN.{length}
 use lib.Dec.{ltb, eqb}
 use Rattle.wire.specs.Fields.{beginsWith, wordAt}
+use Rattle.pattern.specs.File.Types.{maxName}
+use Rattle.pattern.specs.Meaning.Names.{usesName}
+use Rattle.names.specs.Set.{SetOf}
+use Rattle.lines.specs.Lines.{name}
 use Rattle.tableau.specs.Judging.{mark, countWrong, startOf, headerCheck}
 use Rattle.tableau_judge.specs.Headers.{headerOf}
 use Rattle.tableau_judge.specs.JudgeLaws.{start-made, start-out}
@@ -91,6 +97,17 @@ returns-5 c bs uses =
 has-requires : tie.Need-has-requires
 has-requires c κs = search needs
 
+made : (c : tie.After-start)
+    → let start = startOf (c .before .before .before .before .before .before .before .before .before .before .before .before .before .args .t .now) in
+    (ltb maxName start ≡ false) × (c .start .given .0 .0 ≡ name start)
+made c = start-made _ _ _ (c .before .before .of .ensures) (c .start .given .1)
+
+used-start : (c : tie.After-has) {t : Bool}
+    → c .has .result ≡ t
+    → let a = c .before .before .before .before .before .before .before .before .before .before .before .before .before .before .before .args in
+    (bs : List ℕ) → SetOf (usesName bs) (a .used) → usesName bs (startOf (a .t .now)) ≡ t
+used-start c h bs uses = sym (uses _) ∙ (sym (rw (made (c .before .before) .1) at (c .has .ensures)) ∙ h)
+
 returns-6 : tie.Need-returns-6
 unfolding headerOf headerCheck
 returns-6 c bs uses =
@@ -99,15 +116,13 @@ returns-6 c bs uses =
     let k = f .before .before in
     let v = k .before .before in
     let m = v .before .before in
-    let start = startOf (m .before .before .before .before .before .args .t .now) in
-    let made = start-made start _ _ (f .of .ensures) (s .start .given .1) in
     rw (
       long (m .before .before .before),
       marked m,
       version-one v,
       count-right k,
-      made .0,
-      sym (uses start) ∙ sym (rw (made .1) at (c .before .has .ensures)) ∙ c .if5 .taken,
+      made s .0,
+      used-start (c .before) (c .if5 .taken) bs uses,
     )
 
 word-requires-2 : tie.Need-word-requires-2
@@ -122,17 +137,15 @@ returns-7 c bs uses =
     let k = f .before .before in
     let v = k .before .before in
     let m = v .before .before in
-    let start = startOf (m .before .before .before .before .before .args .t .now) in
-    let made = start-made start _ _ (f .of .ensures) (s .start .given .1) in
     rw (
       long (m .before .before .before),
       marked m,
       version-one v,
       count-right k,
-      made .0,
-      sym (uses start) ∙ sym (rw (made .1) at (u .has .ensures)) ∙ c .before .if5 .left,
+      made s .0,
+      used-start u (c .before .if5 .left) bs uses,
       c .word2 .ensures,
-      made .1,
+      made s .1,
     )
 
 pub read-header-spec : {M : Type 1} → statement M
