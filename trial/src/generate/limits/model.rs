@@ -18,10 +18,10 @@ pub fn model(random: &mut Random, pattern: &Pattern, file: &mut Vec<u8>) {
         4 => {
             let edges = random.pick(&[4095, 4096, 4096, 4097]);
             counts(random, pattern, file, [64, 128, edges]);
-            misjudge_length(random, file);
             if random.once_in(2) {
                 border_record(random, file, [64, 128, edges]);
             }
+            misjudge_length(random, file);
         }
         5..9 => {
             let nodes = random.pick(&[0, 1, 63, 64, 65, 255]);
