@@ -8,6 +8,7 @@ use lines::line::edge_line;
 use lines::line::has_line;
 use lines::line::is_line;
 use lines::line::side_of;
+use lines::load;
 use lines::parts::is_negative;
 use lines::parts::is_positive;
 use lines::parts::opposed;
@@ -29,10 +30,13 @@ use rules::fit::clash_if;
 use rules::fit::one_if;
 ghost use mathlib.Core.Path.{_≡_};
 ghost use mathlib.Core.Bool.{_&&_};
+ghost use Prim.Native.Nat.{_+_, _*_, _≤_};
+ghost use lib.ListN.{length};
 ghost use Rattle.pattern.specs.File.Table.{sameKind};
 ghost use Rattle.pattern.specs.File.Entries.{HasEntry};
 ghost use Rattle.lines.specs.declared.line.Line.{Line};
 ghost use Rattle.lines.specs.Parts.{positive, negative};
+ghost use Rattle.lines.specs.Stored.{lineAt};
 ghost use Rattle.rules.specs.declared.conclusion.Conclusion.{Conclusion};
 ghost use Rattle.rules.specs.Rules.{comparing, rule1, rule2, rule3, rule4, rule5, rule6, rule7, clashIf, opposedHas, rule21, ruleAt};
 
@@ -174,11 +178,13 @@ fn rule21(h: HasLine, q: Line) -> bool
     opposes(h, m)
 }
 
-// What the rule of a number gives where P is a has/lacks line whose node is an entry of the pattern;
-// rules that P doesn't fit give nothing.
-pub fn outcome(p: &[u8], rule: u8, h: HasLine, q: Line, argument: u8) -> Outcome
+// What the rule of a number gives where P is a has/lacks line whose node is an entry of the pattern, and
+// Q is line q of the area, which is read by the rules alone that use it; rules that P doesn't fit give
+// nothing.
+pub fn outcome(p: &[u8], area: &[u8], rule: u8, h: HasLine, q: usize, argument: u8) -> Outcome
     requires { ⌜ HasEntry (now p) (h .node) ⌝ }
-    ensures { λ r. ⌜ r ≡ ruleAt rule .outcome (now (p .entry)) (Line.Has h) q argument ⌝ }
+    requires { ⌜ 8 * (q + 1) ≤ length (now area) ⌝ }
+    ensures { λ r. ⌜ r ≡ ruleAt rule .outcome (now (p .entry)) (Line.Has h) (lineAt (now (area .entry)) q) argument ⌝ }
 {
     let e = Entry::at(p, h.node);
     match rule {
@@ -187,9 +193,9 @@ pub fn outcome(p: &[u8], rule: u8, h: HasLine, q: Line, argument: u8) -> Outcome
         3 => rule3(h, e),
         4 => rule4(h, e),
         5 => rule5(h, e, argument),
-        6 => rule6(h, e, q),
+        6 => rule6(h, e, load(area, q)),
         7 => rule7(h, e),
-        21 => clash_if(rule21(h, q)),
+        21 => clash_if(rule21(h, load(area, q))),
         _ => Outcome::Unfit,
     }
 }

@@ -7,6 +7,7 @@ use lines::line::Line;
 use lines::line::compare_line;
 use lines::line::is_line;
 use lines::line::side_of;
+use lines::load;
 use lines::parts::is_negative;
 use lines::parts::is_positive;
 use lines::parts::opposed;
@@ -22,8 +23,10 @@ use rules::fit::clash_if;
 use rules::fit::one_if;
 ghost use mathlib.Core.Path.{_≡_};
 ghost use mathlib.Core.List.{List};
-ghost use Prim.Native.Nat.{ℕ};
+ghost use Prim.Native.Nat.{ℕ, _+_, _*_, _≤_};
+ghost use lib.ListN.{length};
 ghost use Rattle.lines.specs.declared.line.Line.{Line};
+ghost use Rattle.lines.specs.Stored.{lineAt};
 ghost use Rattle.rules.specs.Rules.{rule17, rule18, rule19, clashIf, opposedIs, rule21, rule23, ruleAt};
 
 // 17. "P: i is j: j is i."
@@ -101,16 +104,17 @@ fn rule23(l: IsLine) -> bool
     is_negative(sign) & same_name(first, second)
 }
 
-// What the rule of a number concludes where P is an is/is not line, whatever the pattern; rules that P
-// doesn't fit conclude nothing.
-pub fn outcome(rule: u8, l: IsLine, q: Line, argument: u8) -> Outcome
-    ensures { λ r. ⌜ ((bs : List ℕ) → r ≡ ruleAt rule .outcome bs (Line.Is l) q argument) ⌝ }
+// What the rule of a number concludes where P is an is/is not line, whatever the pattern, and Q is line
+// q of the area, which is read by the rules alone that use it; rules that P doesn't fit conclude nothing.
+pub fn outcome(area: &[u8], rule: u8, l: IsLine, q: usize, argument: u8) -> Outcome
+    requires { ⌜ 8 * (q + 1) ≤ length (now area) ⌝ }
+    ensures { λ r. ⌜ ((bs : List ℕ) → r ≡ ruleAt rule .outcome bs (Line.Is l) (lineAt (now (area .entry)) q) argument) ⌝ }
 {
     match rule {
         17 => rule17(l),
         18 => rule18(l, argument),
-        19 => rule19(l, q, argument),
-        21 => clash_if(rule21(l, q)),
+        19 => rule19(l, load(area, q), argument),
+        21 => clash_if(rule21(l, load(area, q))),
         23 => clash_if(rule23(l)),
         _ => Outcome::Unfit,
     }

@@ -5,6 +5,7 @@ use lines::line::Line;
 use lines::line::edge_line;
 use lines::line::has_line;
 use lines::line::side_of;
+use lines::load;
 use lines::parts::at_end;
 use lines::parts::is_negative;
 use lines::parts::is_positive;
@@ -22,11 +23,14 @@ use rules::fit::arrive;
 use rules::fit::one_if;
 ghost use mathlib.Core.Path.{_≡_};
 ghost use mathlib.Core.Bool.{_&&_};
+ghost use Prim.Native.Nat.{_+_, _*_, _≤_};
+ghost use lib.ListN.{length};
 ghost use Rattle.pattern.specs.File.Table.{sameKind};
 ghost use Rattle.lines.specs.declared.line.Line.{Line};
 ghost use Rattle.lines.specs.Lines.{has, leads, side};
 ghost use Rattle.lines.specs.Formed.{PathWithin};
 ghost use Rattle.lines.specs.Parts.{positive, negative, withLeft};
+ghost use Rattle.lines.specs.Stored.{lineAt};
 ghost use Rattle.rules.specs.Rules.{rule9, rule10, rule11, rule12, rule13, rule14, rule15, ruleAt};
 ghost use Rattle.rules.specs.Table.{NoneOf};
 ghost use Rattle.left_rules.specs.Listed.{wholeRules};
@@ -164,12 +168,13 @@ fn rule15(l: CompareLine, e: Entry, q: Line) -> Outcome
     one_if(fits, going_from(l, k, e.y))
 }
 
-// What the rules 9 to 15 conclude, which go by the left path; at its end they conclude nothing. Any
-// other rule here doesn't fit.
-pub fn outcome(p: &[u8], rule: u8, l: CompareLine, q: Line, argument: u8) -> Outcome
+// What the rules 9 to 15 conclude, which go by the left path; at its end they conclude nothing. Q is
+// line q of the area, which is read by rule 15 alone. Any other rule here doesn't fit.
+pub fn outcome(p: &[u8], area: &[u8], rule: u8, l: CompareLine, q: usize, argument: u8) -> Outcome
     requires { ⌜ NoneOf rule wholeRules ⌝ }
     requires { ⌜ PathWithin (now p) (l .left .path) ⌝ }
-    ensures { λ r. ⌜ r ≡ ruleAt rule .outcome (now (p .entry)) (Line.Compare l) q argument ⌝ }
+    requires { ⌜ 8 * (q + 1) ≤ length (now area) ⌝ }
+    ensures { λ r. ⌜ r ≡ ruleAt rule .outcome (now (p .entry)) (Line.Compare l) (lineAt (now (area .entry)) q) argument ⌝ }
 {
     let left = l.left;
     if at_end(left) {
@@ -183,7 +188,7 @@ pub fn outcome(p: &[u8], rule: u8, l: CompareLine, q: Line, argument: u8) -> Out
         12 => rule12(l, e),
         13 => rule13(l, e),
         14 => rule14(l, e, argument),
-        15 => rule15(l, e, q),
+        15 => rule15(l, e, load(area, q)),
         _ => Outcome::Unfit,
     }
 }

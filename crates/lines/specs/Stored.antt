@@ -1,9 +1,9 @@
 -- Lines in lent bytes, eight a line.
 -- Assumes nothing.
 use mathlib.Core.Path.{_≡_, refl, sym, ap, _∙_}
-use mathlib.Core.Bool.{false, not, _&&_, _||_, or-false, and-false, and-true}
+use mathlib.Core.Bool.{Bool, false, not, _&&_, _||_, or-false, and-false, and-true}
 use mathlib.Core.List.{List, [], _∷_, _++_}
-use Prim.Native.Nat.{ℕ, zero, suc, _+_, _-_, _*_, _≤_, _<_}
+use Prim.Native.Nat.{ℕ, zero, suc, _+_, _-_, _*_, _%_, _≤_, _<_}
 use native.Mathlib.Nat.{not-suc-le-zero, le-of-suc-le-suc, le-refl, add-zero, zero-add}
 use native.Mathlib.Omega.{arith}
 use native.Mathlib.Numerals.{add-one}
@@ -14,8 +14,12 @@ use Rattle.pattern.specs.declared.types.Channel.{Channel}
 use Rattle.pattern.specs.declared.types.Sign.{Sign}
 use Rattle.pattern.specs.declared.types.Comparison.{Comparison}
 use Rattle.pattern.specs.File.Types.{channelNumber}
+use Rattle.lines.specs.declared.line.HasLine.{HasLine}
+use Rattle.lines.specs.declared.line.IsLine.{IsLine}
+use Rattle.lines.specs.declared.line.EdgeLine.{EdgeLine}
+use Rattle.lines.specs.declared.line.CompareLine.{CompareLine}
 use Rattle.lines.specs.declared.line.Line.{Line}
-use Rattle.lines.specs.Lines.{has, is, leads, side, compare, name, axis, lineHas, branchHas, lineOn}
+use Rattle.lines.specs.Lines.{has, is, side, name, axis, lineHas, branchHas, lineOn}
 use Rattle.lines.specs.Parts.{channelAt}
 
 abbrev pub signNumber : Sign → ℕ
@@ -47,22 +51,38 @@ bytesOf (Line.Compare l) =
     comparisonForm ∷ signNumber (l .sign) ∷ comparisonNumber (l .comparison) ∷ channelNumber (l .channel) ∷ l .left .name .number
     ∷ l .left .path ∷ l .right .name .number ∷ l .right .path ∷ []
 
--- the line of eight bytes
-abbrev pub lineOfForm : ℕ → ℕ → ℕ → ℕ → ℕ → ℕ → ℕ → ℕ → Line
-lineOfForm zero b c d e f g h = has (signAt b) (name c) d
-lineOfForm (suc zero) b c d e f g h = is (signAt b) (name c) (name d)
-lineOfForm (suc (suc zero)) b c d e f g h = leads (axis b) (name c) (name d)
-lineOfForm (suc (suc (suc n))) b c d e f g h = compare (signAt b) (comparisonAt c) (channelAt d) (side (name e) f) (side (name g) h)
+-- the byte of line k's form
+abbrev pub formAt : List ℕ → ℕ → ℕ
+formAt xs k = getD xs (8 * k) 0
 
--- the comparison of eight bytes
-abbrev pub compareOf : List ℕ → Line
-compareOf bs = lineOfForm comparisonForm (getD bs 1 0) (getD bs 2 0) (getD bs 3 0) (getD bs 4 0) (getD bs 5 0) (getD bs 6 0) (getD bs 7 0)
+-- line k as a line of each form; of a sign, a comparison and a channel the lowest bits are read
+abbrev pub hasAt : List ℕ → ℕ → HasLine
+hasAt xs k = record { sign = signAt (getD xs (8 * k + 1) 0 % 2); name = name (getD xs (8 * k + 2) 0); node = getD xs (8 * k + 3) 0 }
+
+abbrev pub isAt : List ℕ → ℕ → IsLine
+isAt xs k = record { sign = signAt (getD xs (8 * k + 1) 0 % 2); first = name (getD xs (8 * k + 2) 0); second = name (getD xs (8 * k + 3) 0) }
+
+abbrev pub edgeAt : List ℕ → ℕ → EdgeLine
+edgeAt xs k = record { axis = axis (getD xs (8 * k + 1) 0); from = name (getD xs (8 * k + 2) 0); to = name (getD xs (8 * k + 3) 0) }
+
+abbrev pub compareAt : List ℕ → ℕ → CompareLine
+compareAt xs k = record {
+  sign = signAt (getD xs (8 * k + 1) 0 % 2);
+  comparison = comparisonAt (getD xs (8 * k + 2) 0 % 2);
+  channel = channelAt (getD xs (8 * k + 3) 0 % 4);
+  left = side (name (getD xs (8 * k + 4) 0)) (getD xs (8 * k + 5) 0);
+  right = side (name (getD xs (8 * k + 6) 0)) (getD xs (8 * k + 7) 0);
+}
+
+abbrev pub lineOfForm : ℕ → List ℕ → ℕ → Line
+lineOfForm zero xs k = Line.Has (hasAt xs k)
+lineOfForm (suc zero) xs k = Line.Is (isAt xs k)
+lineOfForm (suc (suc zero)) xs k = Line.Edge (edgeAt xs k)
+lineOfForm (suc (suc (suc n))) xs k = Line.Compare (compareAt xs k)
 
 -- line k of the lent bytes
 unfoldable pub lineAt : List ℕ → ℕ → Line
-lineAt xs k =
-    lineOfForm (getD xs (8 * k) 0) (getD xs (8 * k + 1) 0) (getD xs (8 * k + 2) 0) (getD xs (8 * k + 3) 0) (getD xs (8 * k + 4) 0)
-    (getD xs (8 * k + 5) 0) (getD xs (8 * k + 6) 0) (getD xs (8 * k + 7) 0)
+lineAt xs k = lineOfForm (formAt xs k) xs k
 
 -- the next so many lines, from line k on; a branch of n lines is `linesFrom xs 0 n`
 unfoldable pub linesFrom : List ℕ → ℕ → ℕ → List Line
@@ -83,37 +103,56 @@ pub comparison-beyond : (n : ℕ) → (n ≡ 0 → ⊥) → comparisonAt n ≡ C
 comparison-beyond zero h = absurd (h refl)
 comparison-beyond (suc n) h = refl
 
--- a form that is none of the first three
-pub form-beyond : (n b c d e f g h : ℕ) → (n ≡ 0 → ⊥) → (n ≡ 1 → ⊥) → (n ≡ 2 → ⊥)
-    → lineOfForm n b c d e f g h ≡ lineOfForm comparisonForm b c d e f g h
-form-beyond zero b c d e f g h x y z = absurd (x refl)
-form-beyond (suc zero) b c d e f g h x y z = absurd (y refl)
-form-beyond (suc (suc zero)) b c d e f g h x y z = absurd (z refl)
-form-beyond (suc (suc (suc n))) b c d e f g h x y z = refl
+-- line k by its form
+module _ (xs : List ℕ) (k : ℕ) where
+  pub has-form : formAt xs k ≡ 0 → lineAt xs k ≡ Line.Has (hasAt xs k)
+  unfolding lineAt
+  has-form e = rw e refl
+
+  pub is-form : formAt xs k ≡ 1 → lineAt xs k ≡ Line.Is (isAt xs k)
+  unfolding lineAt
+  is-form e = rw e refl
+
+  pub edge-form : formAt xs k ≡ 2 → lineAt xs k ≡ Line.Edge (edgeAt xs k)
+  unfolding lineAt
+  edge-form e = rw e refl
+
+  -- a form that is none of the first three
+  pub compare-form : (formAt xs k ≡ 0 → ⊥) → (formAt xs k ≡ 1 → ⊥) → (formAt xs k ≡ 2 → ⊥) → lineAt xs k ≡ Line.Compare (compareAt xs k)
+  unfolding lineAt
+  compare-form = go (formAt xs k)
+    where
+      go : (n : ℕ) → (n ≡ 0 → ⊥) → (n ≡ 1 → ⊥) → (n ≡ 2 → ⊥) → lineOfForm n xs k ≡ Line.Compare (compareAt xs k)
+      go zero x y z = absurd (x refl)
+      go (suc zero) x y z = absurd (y refl)
+      go (suc (suc zero)) x y z = absurd (z refl)
+      go (suc (suc (suc n))) x y z = refl
 
 -- the names of a comparison are at bytes 4 and 6
-pub compared-names : (xs : List ℕ) (k i : ℕ) → 2 < getD xs (8 * k) 0
+pub compared-names : (xs : List ℕ) (k i : ℕ) → 2 < formAt xs k
     → lineHas (lineAt xs k) i ≡ eqb (getD xs (8 * k + 4) 0) i || eqb (getD xs (8 * k + 6) 0) i
-unfolding lineAt
-compared-names xs k i h = rw (form-beyond (getD xs (8 * k) 0) _ _ _ _ _ _ _ (λ e. omega (arith, h, e)) (λ e. omega (arith, h, e)) (λ e. omega (arith, h, e))) refl
+compared-names xs k i h = rw (compare-form xs k (λ e. omega (arith, h, e)) (λ e. omega (arith, h, e)) (λ e. omega (arith, h, e))) refl
 
 -- those of the other forms at bytes 2 and 3; a line of the first form has one
-form-names : (n b c d e f g h i : ℕ) → n ≤ 2 → lineHas (lineOfForm n b c d e f g h) i ≡ eqb c i || (eqb d i && not (eqb n 0))
-form-names zero b c d e f g h i l = rw (and-false (eqb d i)) (sym (or-false (eqb c i)))
-form-names (suc zero) b c d e f g h i l = rw (and-true (eqb d i)) refl
-form-names (suc (suc zero)) b c d e f g h i l = rw (and-true (eqb d i)) refl
-form-names (suc (suc (suc n))) b c d e f g h i l = absurd (omega (arith, l))
-
-pub other-names : (xs : List ℕ) (k i : ℕ) → getD xs (8 * k) 0 ≤ 2
-    → lineHas (lineAt xs k) i ≡ eqb (getD xs (8 * k + 2) 0) i || (eqb (getD xs (8 * k + 3) 0) i && not (eqb (getD xs (8 * k) 0) 0))
+pub other-names : (xs : List ℕ) (k i : ℕ) → formAt xs k ≤ 2
+    → lineHas (lineAt xs k) i ≡ eqb (getD xs (8 * k + 2) 0) i || (eqb (getD xs (8 * k + 3) 0) i && not (eqb (formAt xs k) 0))
 unfolding lineAt
-other-names xs k i h = form-names (getD xs (8 * k) 0) _ _ _ _ _ _ _ i h
+other-names xs k i = go (formAt xs k)
+  where
+    second : Bool
+    second = eqb (getD xs (8 * k + 3) 0) i
 
-sign-back : (s : Sign) → signAt (signNumber s) ≡ s
+    go : (n : ℕ) → n ≤ 2 → lineHas (lineOfForm n xs k) i ≡ eqb (getD xs (8 * k + 2) 0) i || (second && not (eqb n 0))
+    go zero l = rw (and-false second) (sym (or-false (eqb (getD xs (8 * k + 2) 0) i)))
+    go (suc zero) l = rw (and-true second) refl
+    go (suc (suc zero)) l = rw (and-true second) refl
+    go (suc (suc (suc n))) l = absurd (omega (arith, l))
+
+sign-back : (s : Sign) → signAt (signNumber s % 2) ≡ s
 sign-back Sign.Positive = refl
 sign-back Sign.Negative = refl
 
-comparison-back : (c : Comparison) → comparisonAt (comparisonNumber c) ≡ c
+comparison-back : (c : Comparison) → comparisonAt (comparisonNumber c % 2) ≡ c
 comparison-back Comparison.Same = refl
 comparison-back Comparison.Differ = refl
 
@@ -123,13 +162,19 @@ channel-back Channel.C1 = refl
 channel-back Channel.C2 = refl
 channel-back Channel.C3 = refl
 
+channel-low : (e : Channel) → channelNumber e % 4 ≡ channelNumber e
+channel-low Channel.C0 = refl
+channel-low Channel.C1 = refl
+channel-low Channel.C2 = refl
+channel-low Channel.C3 = refl
+
 -- the line read back from its bytes
 line-back : (l : Line) → lineAt (bytesOf l) 0 ≡ l
 unfolding lineAt
 line-back (Line.Has l) = ap (λ (s : Sign). has s (l .name) (l .node)) (sign-back (l .sign))
 line-back (Line.Is l) = ap (λ (s : Sign). is s (l .first) (l .second)) (sign-back (l .sign))
 line-back (Line.Edge l) = refl
-line-back (Line.Compare l) = rw (sign-back (l .sign), comparison-back (l .comparison), channel-back (l .channel)) refl
+line-back (Line.Compare l) = rw (sign-back (l .sign), comparison-back (l .comparison), channel-low (l .channel), channel-back (l .channel)) refl
 
 bytes-length : (l : Line) → length (bytesOf l) ≡ 8
 bytes-length (Line.Has l) = refl
@@ -140,17 +185,25 @@ bytes-length (Line.Compare l) = refl
 -- equal bytes make equal lines
 line-same : (xs ys : List ℕ) (k m : ℕ) → ((j : ℕ) → j < 8 → getD xs (8 * k + j) 0 ≡ getD ys (8 * m + j) 0) → lineAt xs k ≡ lineAt ys m
 unfolding lineAt
-line-same xs ys k m h =
-    rw (
-      sym (ap (λ (n : ℕ). getD xs n 0) (add-zero (8 * k))) ∙ h 0 (omega arith) ∙ ap (λ (n : ℕ). getD ys n 0) (add-zero (8 * m)),
-      h 1 (omega arith),
-      h 2 (omega arith),
-      h 3 (omega arith),
-      h 4 (omega arith),
-      h 5 (omega arith),
-      h 6 (omega arith),
-      h 7 (omega arith),
-    ) refl
+line-same xs ys k m h = rw form (go (formAt ys m))
+  where
+    form : formAt xs k ≡ formAt ys m
+    form = sym (ap (λ (n : ℕ). getD xs n 0) (add-zero (8 * k))) ∙ h 0 (omega arith) ∙ ap (λ (n : ℕ). getD ys n 0) (add-zero (8 * m))
+
+    go : (n : ℕ) → lineOfForm n xs k ≡ lineOfForm n ys m
+    go zero = rw (h 1 (omega arith), h 2 (omega arith), h 3 (omega arith)) refl
+    go (suc zero) = rw (h 1 (omega arith), h 2 (omega arith), h 3 (omega arith)) refl
+    go (suc (suc zero)) = rw (h 1 (omega arith), h 2 (omega arith), h 3 (omega arith)) refl
+    go (suc (suc (suc n))) =
+        rw (
+          h 1 (omega arith),
+          h 2 (omega arith),
+          h 3 (omega arith),
+          h 4 (omega arith),
+          h 5 (omega arith),
+          h 6 (omega arith),
+          h 7 (omega arith),
+        ) refl
 
 pub length-put : (xs : List ℕ) (k : ℕ) (l : Line) → length (putLine xs k l) ≡ length xs
 unfolding putLine

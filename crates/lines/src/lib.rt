@@ -6,5 +6,9 @@ pub mod parts;
 mod stored;
 pub mod views;
 
+pub use stored::form_at;
 pub use stored::load;
+pub use stored::load_compare;
+pub use stored::load_has;
+pub use stored::load_is;
 pub use stored::store;

@@ -15,7 +15,7 @@ ghost use Prim.Native.Nat.{_+_, _*_, _≤_};
 ghost use lib.ListN.{length};
 ghost use Rattle.lines.specs.declared.line.Line.{Line};
 ghost use Rattle.lines.specs.Lines.{lineHas};
-ghost use Rattle.lines.specs.Stored.{signNumber, signAt, comparisonNumber, comparisonAt, bytesOf, compareOf, lineAt, putLine};
+ghost use Rattle.lines.specs.Stored.{signNumber, signAt, comparisonNumber, comparisonAt, bytesOf, formAt, hasAt, isAt, edgeAt, compareAt, lineAt, putLine};
 
 fn sign_number(sign: Sign) -> u8
     ensures { λ r. ⌜ r ≡ signNumber sign ⌝ }
@@ -104,46 +104,88 @@ fn bytes(line: Line) -> [u8; 8]
     }
 }
 
-// The comparison of eight bytes.
-fn compare_of(b: [u8; 8]) -> Line
-    ensures { λ r. ⌜ r ≡ compareOf b ⌝ }
+// The byte of line k's form.
+pub fn form_at(area: &[u8], k: usize) -> u8
+    requires { ⌜ 8 * (k + 1) ≤ length (now area) ⌝ }
+    ensures { λ r. ⌜ r ≡ formAt (now (area .entry)) k ⌝ }
 {
-    Line::Compare(CompareLine {
-        sign: sign_at(b[1]),
-        comparison: comparison_at(b[2]),
-        channel: channel_at(b[3]),
-        left: Side {
-            name: Name { number: b[4] },
-            path: b[5],
-        },
-        right: Side {
-            name: Name { number: b[6] },
-            path: b[7],
-        },
-    })
+    area[8 * k]
 }
 
-// The line of eight bytes.
-fn line_of(b: [u8; 8]) -> Line
-    ensures { λ r. ⌜ r ≡ lineAt b 0 ⌝ }
+// Line k as a has/lacks line. Of a sign, a comparison and a channel the lowest bits are read: that takes
+// no branch.
+pub fn load_has(area: &[u8], k: usize) -> HasLine
+    requires { ⌜ 8 * (k + 1) ≤ length (now area) ⌝ }
+    ensures { λ r. ⌜ r ≡ hasAt (now (area .entry)) k ⌝ }
 {
-    match b[0] {
-        0 => Line::Has(HasLine {
-            sign: sign_at(b[1]),
-            name: Name { number: b[2] },
-            node: b[3],
-        }),
-        1 => Line::Is(IsLine {
-            sign: sign_at(b[1]),
-            first: Name { number: b[2] },
-            second: Name { number: b[3] },
-        }),
-        2 => Line::Edge(EdgeLine {
-            axis: Axis { number: b[1] },
-            from: Name { number: b[2] },
-            to: Name { number: b[3] },
-        }),
-        _ => compare_of(b),
+    let at = 8 * k;
+    HasLine {
+        sign: sign_at(area[at + 1] % 2),
+        name: Name {
+            number: area[at + 2],
+        },
+        node: area[at + 3],
+    }
+}
+
+// Line k as an is/is not line.
+pub fn load_is(area: &[u8], k: usize) -> IsLine
+    requires { ⌜ 8 * (k + 1) ≤ length (now area) ⌝ }
+    ensures { λ r. ⌜ r ≡ isAt (now (area .entry)) k ⌝ }
+{
+    let at = 8 * k;
+    IsLine {
+        sign: sign_at(area[at + 1] % 2),
+        first: Name {
+            number: area[at + 2],
+        },
+        second: Name {
+            number: area[at + 3],
+        },
+    }
+}
+
+// Line k as an axis line.
+fn load_edge(area: &[u8], k: usize) -> EdgeLine
+    requires { ⌜ 8 * (k + 1) ≤ length (now area) ⌝ }
+    ensures { λ r. ⌜ r ≡ edgeAt (now (area .entry)) k ⌝ }
+{
+    let at = 8 * k;
+    EdgeLine {
+        axis: Axis {
+            number: area[at + 1],
+        },
+        from: Name {
+            number: area[at + 2],
+        },
+        to: Name {
+            number: area[at + 3],
+        },
+    }
+}
+
+// Line k as a comparison.
+pub fn load_compare(area: &[u8], k: usize) -> CompareLine
+    requires { ⌜ 8 * (k + 1) ≤ length (now area) ⌝ }
+    ensures { λ r. ⌜ r ≡ compareAt (now (area .entry)) k ⌝ }
+{
+    let at = 8 * k;
+    CompareLine {
+        sign: sign_at(area[at + 1] % 2),
+        comparison: comparison_at(area[at + 2] % 2),
+        channel: channel_at(area[at + 3] % 4),
+        left: Side {
+            name: Name {
+                number: area[at + 4],
+            },
+            path: area[at + 5],
+        },
+        right: Side {
+            name: Name {
+                number: area[at + 6],
+            },
+            path: area[at + 7],
+        },
     }
 }
 
@@ -152,17 +194,12 @@ pub fn load(area: &[u8], k: usize) -> Line
     requires { ⌜ 8 * (k + 1) ≤ length (now area) ⌝ }
     ensures { λ r. ⌜ r ≡ lineAt (now (area .entry)) k ⌝ }
 {
-    let at = 8 * k;
-    line_of([
-        area[at],
-        area[at + 1],
-        area[at + 2],
-        area[at + 3],
-        area[at + 4],
-        area[at + 5],
-        area[at + 6],
-        area[at + 7],
-    ])
+    match form_at(area, k) {
+        0 => Line::Has(load_has(area, k)),
+        1 => Line::Is(load_is(area, k)),
+        2 => Line::Edge(load_edge(area, k)),
+        _ => Line::Compare(load_compare(area, k)),
+    }
 }
 
 // Whether line k of the area has the name. The names are at bytes 2 and 3, those of a comparison at 4 and

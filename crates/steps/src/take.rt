@@ -7,7 +7,6 @@ use crate::table::is_known;
 use crate::table::uses_argument;
 use crate::table::uses_q;
 use lines::fresh::is_fresh;
-use lines::load;
 use names::NameSet;
 use rules::conclusion::Conclusion;
 use rules::conclusion::Outcome;
@@ -73,9 +72,9 @@ fn step_outcome(p: &[u8], area: &[u8], len: usize, s: Step) -> Outcome
     requires { ⌜ fieldFault (linesFrom (now area) 0 len) s ≡ false ⌝ }
     ensures { λ r. ⌜ r ≡ stepOutcome (now (p .entry)) (linesFrom (now (area .entry)) 0 len) s ⌝ }
 {
-    let first = load(area, s.p as usize);
-    let second = load(area, s.q as usize);
-    outcome(p, s.rule, first, second, s.argument)
+    let first = s.p as usize;
+    let second = s.q as usize;
+    outcome(p, area, s.rule, first, second, s.argument)
 }
 
 // Refusal 22: whether the conclusion wants a name fresh that isn't, for a pattern that uses these names.

@@ -2,6 +2,7 @@
 -- Assumes nothing.
 use mathlib.Core.Path.{sym, _∙_}
 use Rattle.lines.specs.declared.line.Line.{Line}
+use Rattle.lines.specs.Stored.{lineAt}
 use Rattle.rules.specs.Rules.{ruleAt}
 use Rattle.rules.specs.RuleLaws.{of-rule}
 use Rattle.has_rules.specs.Listed.{has-unfit}
@@ -27,11 +28,17 @@ rule4-requires c κs = search needs
 rule5-requires : tie.Need-rule5-requires
 rule5-requires c κs = search needs
 
+load-requires : tie.Need-load-requires
+load-requires c κs = search needs
+
 rule6-requires : tie.Need-rule6-requires
 rule6-requires c κs = search needs
 
 rule7-requires : tie.Need-rule7-requires
 rule7-requires c κs = search needs
+
+load-requires-2 : tie.Need-load-requires-2
+load-requires-2 c κs = search needs
 
 rule21-requires : tie.Need-rule21-requires
 rule21-requires c κs = search needs
@@ -43,61 +50,64 @@ returns : tie.Need-returns
 unfolding ruleAt
 returns c =
     let s = c .before .before in
-    let a = s .before .before .args in
-    of-rule (a .p .now) (Line.Has (a .h)) (a .q) (a .argument) (c .before .match .keys1) (rw (s .at .ensures) at (c .rule1 .ensures))
+    let a = s .before .before .before .args in
+    of-rule (a .p .now) (Line.Has (a .h)) (lineAt (a .area .now) (a .q)) (a .argument) (c .before .match .keys1) (rw (s .at .ensures) at (c .rule1 .ensures))
 
 returns-2 : tie.Need-returns-2
 unfolding ruleAt
 returns-2 c =
     let s = c .before .before in
-    let a = s .before .before .args in
-    of-rule (a .p .now) (Line.Has (a .h)) (a .q) (a .argument) (c .before .match .keys2) (rw (s .at .ensures) at (c .rule2 .ensures))
+    let a = s .before .before .before .args in
+    of-rule (a .p .now) (Line.Has (a .h)) (lineAt (a .area .now) (a .q)) (a .argument) (c .before .match .keys2) (rw (s .at .ensures) at (c .rule2 .ensures))
 
 returns-3 : tie.Need-returns-3
 unfolding ruleAt
 returns-3 c =
     let s = c .before .before in
-    let a = s .before .before .args in
-    of-rule (a .p .now) (Line.Has (a .h)) (a .q) (a .argument) (c .before .match .keys3) (rw (s .at .ensures) at (c .rule3 .ensures))
+    let a = s .before .before .before .args in
+    of-rule (a .p .now) (Line.Has (a .h)) (lineAt (a .area .now) (a .q)) (a .argument) (c .before .match .keys3) (rw (s .at .ensures) at (c .rule3 .ensures))
 
 returns-4 : tie.Need-returns-4
 unfolding ruleAt
 returns-4 c =
     let s = c .before .before in
-    let a = s .before .before .args in
-    of-rule (a .p .now) (Line.Has (a .h)) (a .q) (a .argument) (c .before .match .keys4) (rw (s .at .ensures) at (c .rule4 .ensures))
+    let a = s .before .before .before .args in
+    of-rule (a .p .now) (Line.Has (a .h)) (lineAt (a .area .now) (a .q)) (a .argument) (c .before .match .keys4) (rw (s .at .ensures) at (c .rule4 .ensures))
 
 returns-5 : tie.Need-returns-5
 unfolding ruleAt
 returns-5 c =
     let s = c .before .before in
-    let a = s .before .before .args in
-    of-rule (a .p .now) (Line.Has (a .h)) (a .q) (a .argument) (c .before .match .keys5) (rw (s .at .ensures) at (c .rule5 .ensures))
+    let a = s .before .before .before .args in
+    of-rule (a .p .now) (Line.Has (a .h)) (lineAt (a .area .now) (a .q)) (a .argument) (c .before .match .keys5) (rw (s .at .ensures) at (c .rule5 .ensures))
 
 returns-6 : tie.Need-returns-6
 unfolding ruleAt
 returns-6 c =
-    let s = c .before .before in
-    let a = s .before .before .args in
-    of-rule (a .p .now) (Line.Has (a .h)) (a .q) (a .argument) (c .before .match .keys6) (rw (s .at .ensures) at (c .rule6 .ensures))
+    let s = c .before .before .before in
+    let a = s .before .before .before .args in
+    of-rule (a .p .now) (Line.Has (a .h)) (lineAt (a .area .now) (a .q)) (a .argument) (c .before .before .match .keys6)
+    (rw (s .at .ensures, c .before .load .ensures) at (c .rule6 .ensures))
 
 returns-7 : tie.Need-returns-7
 unfolding ruleAt
 returns-7 c =
     let s = c .before .before in
-    let a = s .before .before .args in
-    of-rule (a .p .now) (Line.Has (a .h)) (a .q) (a .argument) (c .before .match .keys7) (rw (s .at .ensures) at (c .rule7 .ensures))
+    let a = s .before .before .before .args in
+    of-rule (a .p .now) (Line.Has (a .h)) (lineAt (a .area .now) (a .q)) (a .argument) (c .before .match .keys7) (rw (s .at .ensures) at (c .rule7 .ensures))
 
 returns-8 : tie.Need-returns-8
 unfolding ruleAt
 returns-8 c =
-    let a = c .before .before .before .before .before .args in
-    of-rule (a .p .now) (Line.Has (a .h)) (a .q) (a .argument) (c .before .before .match .keys8) (c .clash-if .ensures ∙ c .before .rule21 .ensures)
+    let l = c .before .before in
+    let a = l .before .before .before .before .before .args in
+    of-rule (a .p .now) (Line.Has (a .h)) (lineAt (a .area .now) (a .q)) (a .argument) (l .before .match .keys8)
+    (c .clash-if .ensures ∙ rw (l .load2 .ensures) at (c .before .rule21 .ensures))
 
 returns-9 : tie.Need-returns-9
 returns-9 c =
-    let a = c .before .before .before .args in
-    sym (has-unfit (a .p .now) (a .h) (a .q) (a .argument) (a .rule) (c .match .rest))
+    let a = c .before .before .before .before .args in
+    sym (has-unfit (a .p .now) (a .h) (lineAt (a .area .now) (a .q)) (a .argument) (a .rule) (c .match .rest))
 
 pub outcome-spec : {M : Type 1} → statement M
 outcome-spec =
@@ -109,8 +119,10 @@ outcome-spec =
     rule3-requires
     rule4-requires
     rule5-requires
+    load-requires
     rule6-requires
     rule7-requires
+    load-requires-2
     rule21-requires
     clash-if-requires
     returns

@@ -1,84 +1,64 @@
--- `lines::stored::load` meets its contract: the line of the eight bytes at its place.
+-- `lines::stored::load` meets its contract: each arm is a form of `lineOfForm`.
 -- Assumes nothing.
-use Rattle.lines.specs.Stored.{lineAt}
+use mathlib.Core.Path.{sym, ap, _∙_}
+use Rattle.lines.specs.declared.line.Line.{Line}
+use Rattle.lines.specs.Stored.{has-form, is-form, edge-form, compare-form}
 use borrow.Author.Needs.{needs}
 use Rattle.lines.proofs.stored.load.Statement.{statement}
 use Rattle.lines.proofs.stored.load.Tie as tie
 
-mul-at : tie.Need-mul-at
-mul-at c = search needs
+form-at-requires : tie.Need-form-at-requires
+form-at-requires c κs = search needs
 
-shared-slice-read-t5 : tie.Need-shared-slice-read-t5
-shared-slice-read-t5 c = search needs
+load-has-requires : tie.Need-load-has-requires
+load-has-requires c κs = search needs
 
-add-t6 : tie.Need-add-t6
-add-t6 c = search needs
+load-is-requires : tie.Need-load-is-requires
+load-is-requires c κs = search needs
 
-shared-slice-read-t8 : tie.Need-shared-slice-read-t8
-shared-slice-read-t8 c = search needs
+load-edge-requires : tie.Need-load-edge-requires
+load-edge-requires c κs = search needs
 
-add-t9 : tie.Need-add-t9
-add-t9 c = search needs
-
-shared-slice-read-t11 : tie.Need-shared-slice-read-t11
-shared-slice-read-t11 c = search needs
-
-add-t12 : tie.Need-add-t12
-add-t12 c = search needs
-
-shared-slice-read-t14 : tie.Need-shared-slice-read-t14
-shared-slice-read-t14 c = search needs
-
-add-t15 : tie.Need-add-t15
-add-t15 c = search needs
-
-shared-slice-read-t17 : tie.Need-shared-slice-read-t17
-shared-slice-read-t17 c = search needs
-
-add-t18 : tie.Need-add-t18
-add-t18 c = search needs
-
-shared-slice-read-t20 : tie.Need-shared-slice-read-t20
-shared-slice-read-t20 c = search needs
-
-add-t21 : tie.Need-add-t21
-add-t21 c = search needs
-
-shared-slice-read-t23 : tie.Need-shared-slice-read-t23
-shared-slice-read-t23 c = search needs
-
-add-t24 : tie.Need-add-t24
-add-t24 c = search needs
-
-shared-slice-read-t26 : tie.Need-shared-slice-read-t26
-shared-slice-read-t26 c = search needs
-
-line-of-requires : tie.Need-line-of-requires
-line-of-requires c κs = search needs
+load-compare-requires : tie.Need-load-compare-requires
+load-compare-requires c κs = search needs
 
 returns : tie.Need-returns
-unfolding lineAt
-returns c = c .line-of .ensures
+returns c =
+    let m = c .before in
+    let a = m .before .before .before .args in
+    ap Line.Has (c .load-has .ensures) ∙ sym (has-form (a .area .now) (a .k) (sym (m .before .form-at .ensures) ∙ m .match .keys1))
+
+returns-2 : tie.Need-returns-2
+returns-2 c =
+    let m = c .before in
+    let a = m .before .before .before .args in
+    ap Line.Is (c .load-is .ensures) ∙ sym (is-form (a .area .now) (a .k) (sym (m .before .form-at .ensures) ∙ m .match .keys2))
+
+returns-3 : tie.Need-returns-3
+returns-3 c =
+    let m = c .before in
+    let a = m .before .before .before .args in
+    ap Line.Edge (c .load-edge .ensures) ∙ sym (edge-form (a .area .now) (a .k) (sym (m .before .form-at .ensures) ∙ m .match .keys3))
+
+returns-4 : tie.Need-returns-4
+returns-4 c =
+    let m = c .before in
+    let a = m .before .before .before .args in
+    let form = m .before .form-at .ensures in
+    let rest = m .match .rest in
+    ap Line.Compare (c .load-compare .ensures)
+    ∙ sym (compare-form (a .area .now) (a .k) (λ e. rest .0 .0 .1 (form ∙ e)) (λ e. rest .0 .1 (form ∙ e)) (λ e. rest .1 (form ∙ e)))
 
 pub load-spec : {M : Type 1} → statement M
 load-spec =
     tie.close
     (tie.spec
-    mul-at
-    shared-slice-read-t5
-    add-t6
-    shared-slice-read-t8
-    add-t9
-    shared-slice-read-t11
-    add-t12
-    shared-slice-read-t14
-    add-t15
-    shared-slice-read-t17
-    add-t18
-    shared-slice-read-t20
-    add-t21
-    shared-slice-read-t23
-    add-t24
-    shared-slice-read-t26
-    line-of-requires
-    returns)
+    form-at-requires
+    load-has-requires
+    load-is-requires
+    load-edge-requires
+    load-compare-requires
+    returns
+    returns-2
+    returns-3
+    returns-4)
