@@ -4,6 +4,7 @@
 use super::fresh::FRESH;
 use super::limits::LIMITS;
 use super::names::{EACH_NAME, NAMES};
+use super::slots::SHARED;
 use super::tally::Tally;
 use crate::generate::input::{Kind, Operation};
 use oracle::pattern::MAX_NAME;
@@ -31,6 +32,7 @@ impl Tally {
         seen.extend(LIMITS.map(|(limit, _)| (self.shown(limit), format!("limit: {limit}"))));
         seen.extend(NAMES.map(|(names, _)| (self.shown(names), format!("names: {names}"))));
         seen.extend(FRESH.map(|(fresh, _)| (self.shown(fresh), format!("fresh names: {fresh}"))));
+        seen.extend(SHARED.map(|(shared, _)| (self.shown(shared), format!("slots: {shared}"))));
         for (names, (what, _)) in self.names.iter().zip(EACH_NAME) {
             let each = 0..=MAX_NAME.into();
             seen.extend(each.map(|name| (names.contains(&name).into(), format!("name {name} {what}"))));

@@ -16,5 +16,6 @@ mod missing;
 mod names;
 pub mod report;
 pub mod run;
+mod slots;
 mod table;
 pub mod tally;

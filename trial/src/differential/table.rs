@@ -4,6 +4,7 @@ use super::fresh::FRESH;
 use super::limits::{LIMITS, Limit};
 use super::missing::{refusals, words};
 use super::names::{EACH_NAME, NAMES};
+use super::slots::SHARED;
 use super::tally::Tally;
 use crate::generate::input::{Kind, Operation};
 use std::fmt;
@@ -30,6 +31,7 @@ impl fmt::Display for Tally {
         self.write_shown(f, "limits", &LIMITS)?;
         self.write_shown(f, "names that the pattern uses and those that the model lists", &NAMES)?;
         self.write_shown(f, "start names and fresh names", &FRESH)?;
+        self.write_shown(f, "entries that share a slot, and repeats", &SHARED)?;
         self.write_each_name(f)?;
         writeln!(f, "files of 0 to 10 bytes")?;
         for operation in Operation::ALL {

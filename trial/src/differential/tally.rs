@@ -3,6 +3,7 @@
 use super::fresh::FRESH;
 use super::limits::{Judged, LIMITS};
 use super::names::{EACH_NAME, NAMES};
+use super::slots::SHARED;
 use crate::generate::input::{Input, Kind, Never, Operation};
 use oracle::finding::{Finding, Refusal};
 use oracle::tableau::{HEADER_BYTES, STEP_BYTES};
@@ -63,7 +64,7 @@ impl Tally {
         self.inputs += 1;
         self.kinds[input.kind as usize] += 1;
         let judged = Judged::new(input, finding);
-        let situations = LIMITS.iter().chain(&NAMES).chain(&FRESH);
+        let situations = LIMITS.iter().chain(&NAMES).chain(&FRESH).chain(&SHARED);
         for (limit, _) in situations.filter(|(_, shows)| shows(&judged)) {
             *self.limits.entry(limit).or_default() += 1;
         }

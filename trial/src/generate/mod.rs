@@ -1,7 +1,7 @@
 //! The inputs of the differential run. Input number i of seed s is a function of (s, i) alone.
 //!
-//! `recipes` makes an input of each kind, of these parts: `patterns` and `crowd` make random patterns,
-//! `models` random models, `walk` random tableaux; `corpus` keeps what the planner found for them and for
+//! `recipes` makes an input of each kind, of these parts: `patterns` and `crowd` make random patterns, `slots`
+//! those that share slots, `models` random models, `walk` random tableaux; `corpus` keeps what the planner found for them and for
 //! patterns that can't occur, which `contradiction` and `composition` make. `rename`, `asked` and `mutate`
 //! change files, and `limits` writes those at document 01's limits. `area` is the working area.
 
@@ -18,6 +18,7 @@ mod mutate;
 mod patterns;
 mod recipes;
 mod rename;
+pub mod slots;
 mod walk;
 
 use corpus::Corpus;

@@ -7,6 +7,7 @@ pub mod tableaux;
 mod typical;
 
 use super::case::Case;
+use crate::generate::slots;
 
 /// The cases of reading a pattern.
 pub fn readings() -> Vec<Case> {
@@ -14,6 +15,7 @@ pub fn readings() -> Vec<Case> {
         Case::reading("typical, 20 entries", &patterns::typical()),
         Case::reading("large, 255 entries", &patterns::mixed(255, patterns::SEED)),
         Case::reading("255 entries of one kind", &patterns::long_after(255)),
+        Case::reading("255 entries in 32 slots", &slots::of_few_slots(32, 255)),
     ]
 }
 

@@ -2,7 +2,7 @@
 
 use super::{cut_short, misjudge_length, spoil_header};
 use crate::generate::mutate::BORDERS;
-use crate::generate::patterns;
+use crate::generate::{patterns, slots};
 use oracle::random::Random;
 
 /// Writes a pattern file at a limit or one over.
@@ -20,6 +20,7 @@ pub fn pattern(random: &mut Random, file: &mut Vec<u8>) {
         11 => longest(random, file),
         12..16 => twins(random, file),
         16..20 => around_a_sort(random, file),
+        20..22 => in_few_slots(random, file),
         _ => border_fields(random, file),
     }
 }
@@ -57,12 +58,27 @@ fn longest(random: &mut Random, file: &mut Vec<u8>) {
 fn twins(random: &mut Random, file: &mut Vec<u8>) {
     let size = random.between(2, 255);
     *file = patterns::of_size(random, size).to_bytes();
+    let twin = repeat(random, size, file);
+    if random.once_in(3) {
+        file[twin + random.below(4)] ^= 1 << random.below(8);
+    }
+}
+
+/// Makes an entry of so many equal to an earlier one, and gives where it stands in the file.
+fn repeat(random: &mut Random, size: usize, file: &mut [u8]) -> usize {
     let twin = random.between(1, size - 1);
     let earlier = 6 + 4 * random.below(twin);
     let twin = 6 + 4 * twin;
     file.copy_within(earlier..earlier + 4, twin);
-    if random.once_in(3) {
-        file[twin + random.below(4)] ^= 1 << random.below(8);
+    twin
+}
+
+/// A pattern whose entries share slots, mostly with an entry that repeats an earlier one.
+fn in_few_slots(random: &mut Random, file: &mut Vec<u8>) {
+    let size = random.between(40, 255);
+    *file = slots::of_few_slots(random.between(32, 64), size).to_bytes();
+    if !random.once_in(4) {
+        repeat(random, size, file);
     }
 }
 
