@@ -1,7 +1,7 @@
-// Whether an entry is equal to an earlier one, for refusal 7. Entries have a slot each, equal ones the
-// same: where no earlier entry has the slot of an entry, it is compared with none. Only where one has,
-// it is compared with every earlier one; so a pattern whose entries share a slot, whether by chance or
-// made so, is read as if there were no slots.
+// Whether an entry is equal to an earlier one, for refusal 7. Each entry has a slot, equal ones the same,
+// and the slots of the entries that passed are marked. An entry whose slot is unmarked is compared with
+// none; otherwise it is compared with every earlier one, so that a pattern made so that its entries share
+// slots is read no slower than without slots.
 ghost use mathlib.Core.Path.{_≡_};
 ghost use lib.ListN.{set};
 ghost use Rattle.wire.specs.Fields.{word32At};
@@ -9,7 +9,7 @@ ghost use Rattle.pattern.specs.File.Entries.{offset, HasEntry, sameBytes};
 ghost use Rattle.pattern.specs.File.Reading.{repeatsAt};
 ghost use Rattle.pattern_read.specs.Seen.{slotOf, slotAt, Seen};
 
-// How many slots there are. They are many more than entries, so that entries that differ seldom share one.
+// How many slots there are: many more than entries, so that entries that differ seldom share one.
 pub const SLOTS: usize = 2048;
 
 // The four bytes of entry k as one number.
@@ -46,12 +46,12 @@ fn repeats(p: &[u8], k: u8) -> bool
     repeated
 }
 
-// The slot of an entry whose four bytes are w: bits 21 to 31 of its product with Knuth's multiplier, the
-// prime next to 2 ^ 32 over the golden ratio, which spreads entries that differ in one byte only.
+// The slot of an entry whose four bytes are w: bits 21 to 31 of its product with Knuth's multiplier, a
+// prime near 2 ^ 32 over the golden ratio, so that entries that are alike get slots far apart.
 fn slot_of(w: u32) -> usize
     ensures { λ r. ⌜ r ≡ slotOf w ⌝ }
 {
-    ((w as u64) * 2654435761 / 2097152 % 2048) as usize
+    ((w as u64) * 2654435761 / 2097152 % (SLOTS as u64)) as usize
 }
 
 // The slot of entry k.

@@ -9,9 +9,12 @@ use Rattle.pattern_read.proofs.repeats.slot_of.Tie as tie
 mul-result : tie.Need-mul-result
 mul-result c = search needs
 
+rem-result : tie.Need-rem-result
+rem-result c = search needs
+
 returns : tie.Need-returns
 unfolding slotOf
 returns c = refl
 
 pub slot-of-spec : {M : Type 1} → statement M
-slot-of-spec = tie.close (tie.spec mul-result returns)
+slot-of-spec = tie.close (tie.spec mul-result rem-result returns)
