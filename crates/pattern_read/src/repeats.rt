@@ -1,7 +1,7 @@
 // Whether an entry is equal to an earlier one, for refusal 7. Each entry has a slot, equal ones the same,
 // and the slots of the entries that passed are marked. An entry whose slot is unmarked is compared with
-// none; otherwise it is compared with every earlier one, so that a pattern made so that its entries share
-// slots is read no slower than without slots.
+// none; otherwise it is compared with every earlier one, so that even a pattern whose entries were made
+// to share slots takes hardly more time than without slots.
 ghost use mathlib.Core.Path.{_≡_};
 ghost use lib.ListN.{set};
 ghost use Rattle.wire.specs.Fields.{word32At};
