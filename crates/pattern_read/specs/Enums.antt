@@ -6,7 +6,7 @@ use Prim.Native.Nat.{ℕ}
 use Rattle.pattern.specs.declared.table.Field.{Field}
 use Rattle.pattern.specs.Checks.Finding.{Check, passes, refuses}
 use Rattle.pattern.specs.File.Reading.{inRange, refersBack, refusalNumber, refusalPlace}
-use Rattle.pattern_read.specs.declared.FieldTest.{FieldTest}
+use Rattle.pattern_read.specs.declared.fields.FieldTest.{FieldTest}
 use Rattle.pattern_read.specs.declared.PatternCheck.{PatternCheck}
 
 -- the test of the fields of entry k, for refusals 5 and 6

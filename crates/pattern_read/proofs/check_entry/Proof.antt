@@ -71,8 +71,8 @@ returns-3 c =
       references-asked r false (not-true _ (c .if3 .taken)),
     )
 
-repeats-requires : tie.Need-repeats-requires
-repeats-requires c κs = search needs
+repeats-seen-requires : tie.Need-repeats-seen-requires
+repeats-seen-requires c κs = search needs
 
 returns-4 : tie.Need-returns-4
 unfolding entryCheck
@@ -83,7 +83,7 @@ returns-4 c =
       sort-asked (f .before .before) false (f .before .if1 .left),
       range-asked f true (not-false _ (r .before .if2 .left)),
       references-asked r true (not-false _ (c .before .before .if3 .left)),
-      sym (c .before .repeats .ensures) ∙ c .if4 .taken,
+      sym (c .before .repeats-seen .ensures) ∙ c .if4 .taken,
     )
 
 returns-5 : tie.Need-returns-5
@@ -95,7 +95,7 @@ returns-5 c =
       sort-asked (f .before .before) false (f .before .if1 .left),
       range-asked f true (not-false _ (r .before .if2 .left)),
       references-asked r true (not-false _ (c .before .before .if3 .left)),
-      sym (c .before .repeats .ensures) ∙ c .if4 .left,
+      sym (c .before .repeats-seen .ensures) ∙ c .if4 .left,
     )
 
 pub check-entry-spec : {M : Type 1} → statement M
@@ -110,6 +110,6 @@ check-entry-spec =
     returns-2
     fields-pass-requires-2
     returns-3
-    repeats-requires
+    repeats-seen-requires
     returns-4
     returns-5)

@@ -1,8 +1,8 @@
--- `pattern_read::field_passes` meets its contract: each arm is a clause of `fieldTest`.
+-- `pattern_read::fields::field_passes` meets its contract: each arm is a clause of `fieldTest`.
 -- Assumes nothing.
 use borrow.Author.Needs.{needs}
-use Rattle.pattern_read.proofs.field_passes.Statement.{statement}
-use Rattle.pattern_read.proofs.field_passes.Tie as tie
+use Rattle.pattern_read.proofs.fields.field_passes.Statement.{statement}
+use Rattle.pattern_read.proofs.fields.field_passes.Tie as tie
 
 enum-told : tie.Need-enum-told
 enum-told c = search needs

@@ -1,10 +1,10 @@
--- `pattern_read::in_range` meets its contract: what each making function answers says whether the value is in its range.
+-- `pattern_read::fields::in_range` meets its contract: what each making function answers says whether the value is in its range.
 -- Assumes nothing.
 use Rattle.pattern.specs.File.Types.{maxProperty, maxName, maxAxis, maxChannel}
 use Rattle.pattern.specs.File.Made.{made-within, out-beyond}
 use borrow.Author.Needs.{needs}
-use Rattle.pattern_read.proofs.in_range.Statement.{statement}
-use Rattle.pattern_read.proofs.in_range.Tie as tie
+use Rattle.pattern_read.proofs.fields.in_range.Statement.{statement}
+use Rattle.pattern_read.proofs.fields.in_range.Tie as tie
 
 enum-told : tie.Need-enum-told
 enum-told c = search needs

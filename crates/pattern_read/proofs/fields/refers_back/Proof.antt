@@ -1,9 +1,9 @@
--- `pattern_read::refers_back` meets its contract: each arm is a clause of `refersBack`.
+-- `pattern_read::fields::refers_back` meets its contract: each arm is a clause of `refersBack`.
 -- Assumes nothing.
 use borrow.Author.Tests.{eq-eqb, ne-eqb}
 use borrow.Author.Needs.{needs}
-use Rattle.pattern_read.proofs.refers_back.Statement.{statement}
-use Rattle.pattern_read.proofs.refers_back.Tie as tie
+use Rattle.pattern_read.proofs.fields.refers_back.Statement.{statement}
+use Rattle.pattern_read.proofs.fields.refers_back.Tie as tie
 
 enum-told : tie.Need-enum-told
 enum-told c = search needs

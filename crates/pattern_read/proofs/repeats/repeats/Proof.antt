@@ -1,4 +1,4 @@
--- `pattern_read::repeats` meets its contract: after j rounds it is known whether an entry below j is the same.
+-- `pattern_read::repeats::repeats` meets its contract: after j rounds it is known whether an entry below j is the same.
 -- Assumes nothing.
 use borrow.Author.Needs.{needs}
 use mathlib.Core.Path.{_≡_, refl, _∙_, ap}
@@ -7,8 +7,8 @@ use native.Mathlib.Numerals.{add-one}
 use native.Mathlib.Omega.{arith}
 use Rattle.pattern.specs.Checks.Range.{someBelow}
 use Rattle.pattern.specs.File.Entries.{sameBytes}
-use Rattle.pattern_read.proofs.repeats.Statement.{statement}
-use Rattle.pattern_read.proofs.repeats.Tie as tie
+use Rattle.pattern_read.proofs.repeats.repeats.Statement.{statement}
+use Rattle.pattern_read.proofs.repeats.repeats.Tie as tie
 
 abbrev Inv-loop : tie.InvT-loop
 Inv-loop p k repeated₀ j₀ repeated j = (j ≤ k) × (repeated ≡ someBelow j (λ i. sameBytes p i k))

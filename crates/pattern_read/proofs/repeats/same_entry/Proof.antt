@@ -1,10 +1,10 @@
--- `pattern_read::same_entry` meets its contract: entries with the same number have the same bytes.
+-- `pattern_read::repeats::same_entry` meets its contract: entries with the same number have the same bytes.
 -- Assumes nothing.
 use Rattle.pattern_read.proofs.Words.{word-same}
 use native.Mathlib.Omega.{arith}
 use borrow.Author.Needs.{needs}
-use Rattle.pattern_read.proofs.same_entry.Statement.{statement}
-use Rattle.pattern_read.proofs.same_entry.Tie as tie
+use Rattle.pattern_read.proofs.repeats.same_entry.Statement.{statement}
+use Rattle.pattern_read.proofs.repeats.same_entry.Tie as tie
 
 entry-word-requires : tie.Need-entry-word-requires
 entry-word-requires c κs = search needs

@@ -1,9 +1,9 @@
--- `pattern_read::earlier_sort` meets its contract: the test is that of `earlierSort`.
+-- `pattern_read::fields::earlier_sort` meets its contract: the test is that of `earlierSort`.
 -- Assumes nothing.
 use borrow.Author.Tests.{lt-ltb, le-ltb}
 use borrow.Author.Needs.{needs}
-use Rattle.pattern_read.proofs.earlier_sort.Statement.{statement}
-use Rattle.pattern_read.proofs.earlier_sort.Tie as tie
+use Rattle.pattern_read.proofs.fields.earlier_sort.Statement.{statement}
+use Rattle.pattern_read.proofs.fields.earlier_sort.Tie as tie
 
 sort-at-requires : tie.Need-sort-at-requires
 sort-at-requires c κs = search needs

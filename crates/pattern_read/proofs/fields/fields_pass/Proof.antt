@@ -1,4 +1,4 @@
--- `pattern_read::fields_pass` meets its contract: the fields are asked in their order, and the first that fails decides.
+-- `pattern_read::fields::fields_pass` meets its contract: the fields are asked in their order, and the first that fails decides.
 -- Assumes nothing.
 use borrow.Author.Tests.{not-true, not-false}
 use mathlib.Core.Path.{sym, _∙_}
@@ -8,8 +8,8 @@ use Rattle.pattern.specs.declared.table.Field.{Field}
 use Rattle.pattern.specs.File.Fields.{x-fails, y-fails, z-decides}
 use Rattle.pattern_read.specs.Enums.{fieldTest}
 use borrow.Author.Needs.{needs}
-use Rattle.pattern_read.proofs.fields_pass.Statement.{statement}
-use Rattle.pattern_read.proofs.fields_pass.Tie as tie
+use Rattle.pattern_read.proofs.fields.fields_pass.Statement.{statement}
+use Rattle.pattern_read.proofs.fields.fields_pass.Tie as tie
 
 form-requires : tie.Need-form-requires
 form-requires c κs = search needs
