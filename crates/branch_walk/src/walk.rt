@@ -209,14 +209,15 @@ fn walk(
             if MAX_WAITING <= waiting {
                 return refusal_code(WalkRefusal::Waiting(at));
             }
+            let more = lines + 1;
             store(*area, lines as usize, left);
             count_fork(counts);
-            let next = walk(p, used, steps, s, area, at + 1, lines + 1, waiting + 1, counts);
+            let next = walk(p, used, steps, s, area, at + 1, more, waiting + 1, counts);
             if FIRST_REFUSAL <= next {
                 return next;
             }
             store(*area, lines as usize, right);
-            walk(p, used, steps, s, area, next as u16, lines + 1, waiting, counts)
+            walk(p, used, steps, s, area, next as u16, more, waiting, counts)
         }
     }
 }

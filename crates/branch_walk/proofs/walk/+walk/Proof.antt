@@ -209,6 +209,9 @@ module _ (t : ℕ) where
       let f = c .before .before in
       (rw (c .refusal-code2 .ensures _) (walk-crowded (fork-stops f) (c .before .if1 .taken)), (kept (at-fork f), refl))
 
+  walk-add-more : walk-lts.Need-add-more walk-claims walk-at walk.Post
+  walk-add-more c = let stops = fork-stops (c .before) in omega (arith, stops .says .1 .1)
+
   walk-slice-aggregate-store : walk-lts.Need-slice-aggregate-store walk-claims walk-at walk.Post
   walk-slice-aggregate-store c = search needs
 
@@ -225,10 +228,7 @@ module _ (t : ℕ) where
   walk-add-walk c = let stops = fork-stops (ahead c) in omega (arith, stops .says .1 .0 .0, stops .says .0 .lent .few-steps)
 
   walk-add-walk-2 : walk-lts.Need-add-walk-2 walk-claims walk-at walk.Post
-  walk-add-walk-2 c = let stops = fork-stops (ahead c) in omega (arith, stops .says .1 .1)
-
-  walk-add-walk-3 : walk-lts.Need-add-walk-3 walk-claims walk-at walk.Post
-  walk-add-walk-3 c = search needs
+  walk-add-walk-2 c = search needs
 
   walk-walk-requires : walk-lts.Need-walk-requires walk-claims walk-at walk.Post
   walk-walk-requires c κs =
@@ -266,9 +266,6 @@ module _ (t : ℕ) where
   walk-cast-walk : walk-lts.Need-cast-walk walk-claims walk-at walk.Post
   walk-cast-walk c = search needs
 
-  walk-add-walk-4 : walk-lts.Need-add-walk-4 walk-claims walk-at walk.Post
-  walk-add-walk-4 c = let stops = fork-stops (behind (closed c)) in omega (arith, stops .says .1 .1)
-
   walk-walk-requires-2 : walk-lts.Need-walk-requires-2 walk-claims walk-at walk.Post
   walk-walk-requires-2 c κs =
       let g = c .before in
@@ -289,8 +286,7 @@ module _ (t : ℕ) where
   walk-returns-4 : walk-lts.Need-returns-4 walk-claims walk-at walk.Post
   walk-returns-4 c =
       let f = c .before .before in
-      let at = f .before .at .given .0 .0 in
-      (
+      let at = f .before .at .given .0 .0 in (
         rw (end-closed (at + 1) (countsOf (c .count-clash .last .0)) (next-fits f), c .count-clash .ensures)
             (walk-clash (start (at-clash f) .pre .1 .1 .1 .1) (clash-stops f)),
         (kept (at-clash f), refl),
@@ -322,20 +318,19 @@ pub +walk-spec : {M : Type 1} → statement M
     (walk-enum-known-at-2 t)
     (walk-refusal-code-requires-2 t)
     (walk-returns t)
+    (walk-add-more t)
     (walk-slice-aggregate-store t)
     (walk-cast-store t)
     (walk-store-requires t)
     (walk-count-fork-requires t)
     (walk-add-walk t)
     (walk-add-walk-2 t)
-    (walk-add-walk-3 t)
     (walk-walk-requires t)
     (walk-returns-2 t)
     (walk-slice-aggregate-store-2 t)
     (walk-cast-store-2 t)
     (walk-store-requires-2 t)
     (walk-cast-walk t)
-    (walk-add-walk-4 t)
     (walk-walk-requires-2 t)
     (walk-returns-3 t)
     (walk-returns-4 t)
