@@ -175,10 +175,10 @@ fn straight(
 // or at a fork over the left side and then over the right side. The number of unread steps falls. What
 // the answer means, and the counts, stands in `branch_end`.
 //
-// The call for the right side comes last, and is to be a jump, so that the stack doesn't grow with the
-// right sides. The compiler makes it one only where arguments and answer fit into registers: so slices
-// are passed by a reference to them, the set of names as two numbers, the counts in an array, and the
-// answer is a number.
+// The call for the right side comes last and is to be a jump, so that the stack doesn't grow with right
+// sides. The compiler makes it one only where each argument is a number or a plain reference and the
+// answer is a number; of a slice, a struct or an enum it passes the address of a copy. So the slices come
+// by references to them, the set of names as two numbers and the counts in an array.
 fn walk(
     p: &&[u8],
     used: &[u64; 2],

@@ -1,12 +1,13 @@
 -- `branch_walk::walk::walk` meets its contract, by the law for each way out; the number of unread steps falls.
 -- Assumes nothing.
 use borrow.Author.Needs.{needs}
-use mathlib.Core.Path.{_≡_, refl, sym, _∙_, subst}
+use mathlib.Core.Path.{_≡_, refl, sym, ap, _∙_, subst}
 use native.Mathlib.Omega.{arith}
 use mathlib.Core.List.{List}
 use lib.ListN.{length}
 use Rattle.lines.specs.declared.line.Line.{Line}
 use Rattle.lines.specs.Stored.{putLine}
+use Rattle.tableau.specs.Run.{maxWaiting}
 use Rattle.branch_end.specs.declared.BranchEnd.{BranchEnd}
 use Rattle.tableau.specs.declared.finding.Counts.{Counts}
 use Rattle.branch_end.specs.Ends.{countsOf, countFork, firstRefusal, endOf, end-closed, end-refused}
@@ -81,6 +82,12 @@ module _ (t : ℕ) where
       let a = start f .args in
       Stops (a .p .now .now) (a .steps .now .now) (a .s) (a .area .now .now) (a .k) (a .len) stop (branch f)
 
+  -- and the walk over the branch ends so with it
+  abbrev EndsAt : Straight → BranchEnd → Type 0
+  EndsAt f ending =
+      let a = start f .args in
+      Walks (a .p .now .now) (a .steps .now .now) (a .s) (a .area .now .now) (a .k) (a .len) (a .waiting) (countsOf (a .counts .now)) ending (branch f)
+
   -- at a clash
   abbrev Clash : Type 0
   Clash = walk-lts.After-known-told2 walk-claims walk-at walk.Post
@@ -131,6 +138,10 @@ module _ (t : ℕ) where
 
   abbrev behind : Left → Fork
   behind w = ahead (w .before .before)
+
+  -- fewer than 64 right sides waited
+  room : (w : Left) → start (at-fork (behind w)) .args .waiting < maxWaiting
+  room w = w .before .before .before .before .before .before .before .if1 .left
 
   abbrev left-branch : Left → List ℕ
   left-branch w = w .walk .last .1 .1 .1 .1 .0 .now
@@ -207,7 +218,8 @@ module _ (t : ℕ) where
   walk-returns : walk-lts.Need-returns walk-claims walk-at walk.Post
   walk-returns c =
       let f = c .before .before in
-      (rw (c .refusal-code2 .ensures _) (walk-crowded (fork-stops f) (c .before .if1 .taken)), (kept (at-fork f), refl))
+      let crowded = walk-crowded (fork-stops f) (c .before .if1 .taken) in
+      (subst (EndsAt (at-fork f)) (sym (c .refusal-code2 .ensures _)) crowded, (kept (at-fork f), refl))
 
   walk-add-more : walk-lts.Need-add-more walk-claims walk-at walk.Post
   walk-add-more c = let stops = fork-stops (c .before) in omega (arith, stops .says .1 .1)
@@ -247,7 +259,7 @@ module _ (t : ℕ) where
       let w = c .before in
       let f = behind w in
       let refused = end-refused (w .walk .result) (left-counts w) (c .if2 .taken) in (
-        rw refused (walk-left-refused (fork-stops f) (w .before .before .before .before .before .before .before .if1 .left) (subst (LeftEnds w) refused (left-ends w))),
+        rw refused (walk-left-refused (fork-stops f) (room w) (subst (LeftEnds w) refused (left-ends w))),
         (left-kept w ∙ kept (at-fork f), w .walk .ensures .1 .1),
       )
 
@@ -281,14 +293,14 @@ module _ (t : ℕ) where
   walk-returns-3 c =
       let f = c .before .before .before .before in
       let stops = subst (StopsAt f) (c .before .before .refusal .given .1) (f .straight .ensures) in
-      (rw (c .refusal-code .ensures _) (walk-refused stops), (kept f, refl))
+      (subst (EndsAt f) (sym (c .refusal-code .ensures _)) (walk-refused stops), (kept f, refl))
 
   walk-returns-4 : walk-lts.Need-returns-4 walk-claims walk-at walk.Post
   walk-returns-4 c =
       let f = c .before .before in
-      let at = f .before .at .given .0 .0 in (
-        rw (end-closed (at + 1) (countsOf (c .count-clash .last .0)) (next-fits f), c .count-clash .ensures)
-            (walk-clash (start (at-clash f) .pre .1 .1 .1 .1) (clash-stops f)),
+      let next = f .before .at .given .0 .0 + 1 in
+      let ends = end-closed next (countsOf (c .count-clash .last .0)) (next-fits f) ∙ ap (BranchEnd.Closed next) (c .count-clash .ensures) in (
+        subst (EndsAt (at-clash f)) (sym ends) (walk-clash (start (at-clash f) .pre .1 .1 .1 .1) (clash-stops f)),
         (kept (at-clash f), refl),
       )
 
@@ -296,9 +308,8 @@ module _ (t : ℕ) where
   walk-returns-5 c =
       let g = c .before .before in
       let w = closed g in
-      let f = behind w in
-      let room = w .before .before .before .before .before .before .before .if1 .left in (
-        walk-right (fork-stops f) room (left-closed g) (left-kept w) (rw (stored g) at (c .walk2 .ensures .0)),
+      let f = behind w in (
+        walk-right (fork-stops f) (room w) (left-closed g) (left-kept w) (rw (stored g) at (c .walk2 .ensures .0)),
         (c .walk2 .ensures .1 .0 ∙ g .before .store2 .kept .0 ∙ left-kept w ∙ kept (at-fork f), c .walk2 .ensures .1 .1 ∙ w .walk .ensures .1 .1),
       )
 
