@@ -65,7 +65,8 @@ pub end-closed : (k : ℕ) (c : Counts) → k < firstRefusal → endOf k c ≡ B
 unfolding endOf
 end-closed k c h = rw (lt-ltb k firstRefusal h) refl
 
-pub end-refused : (answer : ℕ) (c : Counts) → firstRefusal ≤ answer → endOf answer c ≡ BranchEnd.Refused (refusalOf (answer / firstRefusal) (answer % firstRefusal))
+pub end-refused : (answer : ℕ) (c : Counts) → firstRefusal ≤ answer
+    → endOf answer c ≡ BranchEnd.Refused (refusalOf (answer / firstRefusal) (answer % firstRefusal))
 unfolding endOf
 end-refused answer c h = rw (le-ltb answer firstRefusal h) refl
 

@@ -25,7 +25,8 @@ pub enum BranchEnd {
 // the next step; from it on the answer is a refusal's number times this one, and its place.
 pub const FIRST_REFUSAL: u32 = 65536;
 
-// Counts a clash on a branch of so many lines.
+// Counts a clash on a branch of so many lines. Here and at a fork the array is written whole: of one
+// behind a reference the proof doesn't know that it has three elements.
 pub fn count_clash(counts: &mut [u16; 3], len: u16)
     requires { ⌜ countsOf (now counts) .clashes < 65535 ⌝ }
     ensures { λ _. ⌜ countsOf (now (counts .exit)) ≡ countClash len (countsOf (now (counts .entry))) ⌝ }

@@ -35,8 +35,8 @@ ghost use Rattle.branch_walk.specs.declared.walk.Advance.{Advance};
 ghost use Rattle.rules.specs.Sides.{sides};
 ghost use Rattle.tableau.specs.Run.{longest, maxLines, maxWaiting};
 ghost use Rattle.tableau.specs.Judging.{maxSteps, areaNeed, areaAfter, findingOf};
-ghost use Rattle.branch_end.specs.Ends.{countsOf, endOf};
-ghost use Rattle.branch_walk.specs.Walk.{Bounded, WalkLent, advanceOf, pushed, Advances, Stops, Walks, stepsFound};
+ghost use Rattle.branch_end.specs.Ends.{countsOf};
+ghost use Rattle.branch_walk.specs.Walk.{Bounded, WalkLent, advanceOf, pushed, Advances, Stops, Walked, stepsFound};
 
 // Document 01's bounds: the lines of a branch, and the right sides that wait.
 const MAX_LINES: u16 = 1024;
@@ -194,7 +194,7 @@ fn walk(
     requires { ⌜ SetOf (usesName (now (now p))) (namesOf (now used)) ⌝ }
     requires { ⌜ waiting ≤ maxWaiting ⌝ }
     requires { ⌜ Bounded k (countsOf (now counts)) ⌝ }
-    ensures walks { λ r. ⌜ Walks (now (now (p .entry))) (now (now (steps .entry))) s (now (now (area .entry))) k len waiting (countsOf (now (counts .entry))) (endOf r (countsOf (now (counts .exit)))) (now (now (area .exit))) ⌝ }
+    ensures walks { λ r. ⌜ Walked (now (now (p .entry))) (now (now (steps .entry))) s (now (now (area .entry))) k len waiting (now (counts .entry)) r (now (counts .exit)) (now (now (area .exit))) ⌝ }
     ensures long { λ r. ⌜ length (now (now (area .exit))) ≡ length (now (now (area .entry))) ⌝ }
     ensures same { λ r. ⌜ name (now (area .exit)) ≡ name (now (area .entry)) ⌝ }
 {
@@ -236,7 +236,7 @@ fn walk_first<'a>(
     requires { ⌜ WalkLent (now p) (now steps) s (now area) 0 1 ⌝ }
     requires { ⌜ SetOf (usesName (now p)) (namesOf (now used)) ⌝ }
     requires { ⌜ Bounded 0 (countsOf (now counts)) ⌝ }
-    ensures walks { λ r. ⌜ Walks (now (p .entry)) (now (steps .entry)) s (now (area .entry)) 0 1 0 (countsOf (now (counts .entry))) (endOf (now (answer .exit)) (countsOf (now (counts .exit)))) (now r) ⌝ }
+    ensures walks { λ r. ⌜ Walked (now (p .entry)) (now (steps .entry)) s (now (area .entry)) 0 1 0 (now (counts .entry)) (now (answer .exit)) (now (counts .exit)) (now r) ⌝ }
     ensures same { λ r. ⌜ name r ≡ name (area .entry) ⌝ }
 {
     let pattern = p;
