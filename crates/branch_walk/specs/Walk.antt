@@ -20,6 +20,7 @@ use Rattle.tableau.specs.declared.finding.WalkRefusal.{WalkRefusal}
 use Rattle.branch_walk.specs.declared.walk.Stop.{Stop}
 use Rattle.branch_walk.specs.declared.walk.Advance.{Advance}
 use Rattle.branch_end.specs.declared.BranchEnd.{BranchEnd}
+use Rattle.branch_end.specs.Ends.{countsOf, endOf}
 use Rattle.tableau.specs.Run.{run, none, maxLines}
 use Rattle.tableau.specs.Judging.{maxSteps, areaNeed, closedBy, walkNumber, walkPlace}
 
@@ -126,6 +127,10 @@ WalkSays bs ss s xs k len waiting c (BranchEnd.Refused refusal) ys =
 
 pub record Walks (bs ss : List ℕ) (s : ℕ) (xs : List ℕ) (k len waiting : ℕ) (c : Counts) (end : BranchEnd) (ys : List ℕ) : Type 0 where
   pub says : WalkSays bs ss s xs k len waiting c end ys
+
+-- the same of the code's walk, which has the counts in arrays and answers with a number
+abbrev pub Walked : List ℕ → List ℕ → ℕ → List ℕ → ℕ → ℕ → ℕ → List ℕ → ℕ → List ℕ → List ℕ → Type 0
+Walked bs ss s xs k len waiting cs answer ds ys = Walks bs ss s xs k len waiting (countsOf cs) (endOf answer (countsOf ds)) ys
 
 -- ---- the end of the walk
 

@@ -1,10 +1,12 @@
 // The walk over the branches of a tableau. Line k of the branch that is being checked stands in block k
 // of the area; at a fork nothing is copied, since the lines before it stay where they are and those of
 // a side that is closed are dead.
-use branch_end::BranchEnd;
+use branch_end::FIRST_REFUSAL;
+use branch_end::count_clash;
+use branch_end::count_fork;
+use branch_end::end_of;
 use branch_end::finish;
-use branch_end::with_clash;
-use branch_end::with_fork;
+use branch_end::refusal_code;
 use lines::line::HasLine;
 use lines::line::Line;
 use lines::store;
@@ -15,25 +17,26 @@ use rules::conclusion::Conclusion;
 use steps::step::Step;
 use steps::step::StepAnswer;
 use steps::take::take;
-use tableau::finding::Counts;
 use tableau::finding::TableauFinding;
 use tableau::finding::WalkRefusal;
 use wire::clear;
 ghost use mathlib.Core.Path.{_≡_};
 ghost use mathlib.Core.List.{List};
 ghost use Prim.Native.Nat.{ℕ, _+_, _*_, _≤_, _<_};
+ghost use denote.Ref.{name};
 ghost use lib.ListN.{length, replicate};
 ghost use Rattle.wire.specs.Cleared.{cleared};
 ghost use Rattle.pattern.specs.Checks.Finding.{found};
 ghost use Rattle.pattern.specs.File.Reading.{readingOf};
 ghost use Rattle.pattern.specs.Meaning.Names.{usesName};
-ghost use Rattle.names.specs.Set.{SetOf};
+ghost use Rattle.names.specs.Set.{SetOf, namesOf};
 ghost use Rattle.lines.specs.Stored.{putLine};
 ghost use Rattle.branch_walk.specs.declared.walk.Advance.{Advance};
 ghost use Rattle.rules.specs.Sides.{sides};
 ghost use Rattle.tableau.specs.Run.{longest, maxLines, maxWaiting};
 ghost use Rattle.tableau.specs.Judging.{maxSteps, areaNeed, areaAfter, findingOf};
-ghost use Rattle.branch_walk.specs.Walk.{Bounded, WalkLent, advanceOf, pushed, Advances, Stops, Walks, stepsFound};
+ghost use Rattle.branch_end.specs.Ends.{countsOf};
+ghost use Rattle.branch_walk.specs.Walk.{Bounded, WalkLent, advanceOf, pushed, Advances, Stops, Walked, stepsFound};
 
 // Document 01's bounds: the lines of a branch, and the right sides that wait.
 const MAX_LINES: u16 = 1024;
@@ -169,43 +172,79 @@ fn straight(
 }
 
 // Walks over a branch of so many lines, from step k on, with so many right sides waiting: to its clash,
-// or at a fork over the left side and then over the right side. The number of unread steps falls.
+// or at a fork over the left side and then over the right side. The number of unread steps falls. What
+// the answer means, and the counts, stands in `branch_end`.
+//
+// The call for the right side comes last and is to be a jump, so that the stack doesn't grow with right
+// sides. The compiler makes it one only where each argument is a number or a plain reference and the
+// answer is a number; of a slice, a struct or an enum it passes the address of a copy. So the slices come
+// by references to them, the set of names as two numbers and the counts in an array.
 fn walk(
-    p: &[u8],
-    used: NameSet,
-    steps: &[u8],
+    p: &&[u8],
+    used: &[u64; 2],
+    steps: &&[u8],
     s: u16,
-    area: &mut [u8],
+    area: &mut &mut [u8],
     k: u16,
     len: u16,
     waiting: u8,
-    counts: Counts,
-) -> BranchEnd
-    requires { ⌜ WalkLent (now p) (now steps) s (now area) k len ⌝ }
-    requires { ⌜ SetOf (usesName (now p)) used ⌝ }
+    counts: &mut [u16; 3],
+) -> u32
+    requires { ⌜ WalkLent (now (now p)) (now (now steps)) s (now (now area)) k len ⌝ }
+    requires { ⌜ SetOf (usesName (now (now p))) (namesOf (now used)) ⌝ }
     requires { ⌜ waiting ≤ maxWaiting ⌝ }
-    requires { ⌜ Bounded k counts ⌝ }
-    ensures { λ r. ⌜ Walks (now (p .entry)) (now (steps .entry)) s (now (area .entry)) k len waiting counts r (now (area .exit)) ⌝ }
+    requires { ⌜ Bounded k (countsOf (now counts)) ⌝ }
+    ensures walks { λ r. ⌜ Walked (now (now (p .entry))) (now (now (steps .entry))) s (now (now (area .entry))) k len waiting (now (counts .entry)) r (now (counts .exit)) (now (now (area .exit))) ⌝ }
+    ensures long { λ r. ⌜ length (now (now (area .exit))) ≡ length (now (now (area .entry))) ⌝ }
+    ensures same { λ r. ⌜ name (now (area .exit)) ≡ name (now (area .entry)) ⌝ }
 {
-    match straight(p, used, steps, s, area, k, len) {
-        Stop::Refused(refusal) => BranchEnd::Refused(refusal),
-        Stop::Clash(at, lines) => BranchEnd::Closed(at + 1, with_clash(counts, lines)),
+    let names = NameSet::of_numbers(used);
+    match straight(*p, names, *steps, s, *area, k, len) {
+        Stop::Refused(refusal) => refusal_code(refusal),
+        Stop::Clash(at, lines) => {
+            count_clash(counts, lines);
+            at as u32 + 1
+        }
         Stop::Fork(at, lines, left, right) => {
             if MAX_WAITING <= waiting {
-                return BranchEnd::Refused(WalkRefusal::Waiting(at));
+                return refusal_code(WalkRefusal::Waiting(at));
             }
-            store(area, lines as usize, left);
-            let new = with_fork(counts);
-            let first = walk(p, used, steps, s, area, at + 1, lines + 1, waiting + 1, new);
-            match first {
-                BranchEnd::Refused(refusal) => BranchEnd::Refused(refusal),
-                BranchEnd::Closed(next, counted) => {
-                    store(area, lines as usize, right);
-                    walk(p, used, steps, s, area, next, lines + 1, waiting, counted)
-                }
+            let more = lines + 1;
+            store(*area, lines as usize, left);
+            count_fork(counts);
+            let next = walk(p, used, steps, s, area, at + 1, more, waiting + 1, counts);
+            if FIRST_REFUSAL <= next {
+                return next;
             }
+            store(*area, lines as usize, right);
+            walk(p, used, steps, s, area, next as u16, more, waiting, counts)
         }
     }
+}
+
+// Walks over the first branch, of one line, from step 0 on. The slice is handed back as it was handed
+// in: only so may the variable that holds it be lent to the walk.
+fn walk_first<'a>(
+    p: &[u8],
+    used: &[u64; 2],
+    steps: &[u8],
+    s: u16,
+    area: &'a mut [u8],
+    answer: &mut u32,
+    counts: &mut [u16; 3],
+) -> &'a mut [u8]
+    requires { ⌜ WalkLent (now p) (now steps) s (now area) 0 1 ⌝ }
+    requires { ⌜ SetOf (usesName (now p)) (namesOf (now used)) ⌝ }
+    requires { ⌜ Bounded 0 (countsOf (now counts)) ⌝ }
+    ensures walks { λ r. ⌜ Walked (now (p .entry)) (now (steps .entry)) s (now (area .entry)) 0 1 0 (now (counts .entry)) (now (answer .exit)) (now (counts .exit)) (now r) ⌝ }
+    ensures same { λ r. ⌜ name r ≡ name (area .entry) ⌝ }
+{
+    let pattern = p;
+    let bytes = steps;
+    let mut lines = area;
+    *answer = walk(&pattern, used, &bytes, s, &mut lines, 0, 1, 0, counts);
+    let back = lines;
+    back
 }
 
 // Checks the s steps of a tableau with this start name, for a pattern of n entries that was read and
@@ -233,12 +272,10 @@ pub fn check_steps(
         node: n - 1,
     });
     store(area, 0, first);
-    let none = Counts {
-        clashes: 0,
-        forks: 0,
-        most: 0,
-    };
-    let end = walk(p, used, steps, s, area, 0, 1, 0, none);
+    let names = used.numbers();
+    let mut counts = [0u16; 3];
+    let mut answer = 0;
+    walk_first(p, &names, steps, s, area, &mut answer, &mut counts);
     clear(area);
-    finish(end, s)
+    finish(end_of(answer, &counts), s)
 }

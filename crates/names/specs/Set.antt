@@ -3,9 +3,11 @@
 -- Assumes nothing.
 use mathlib.Core.Path.{_≡_, refl, sym, _∙_, ap}
 use mathlib.Core.Bool.{Bool, true, false, not, _&&_, _||_}
+use mathlib.Core.List.{List, [], _∷_}
 use Prim.Native.Nat.{ℕ, _+_, _-_, _≤_, _<_}
 use native.Mathlib.Omega.{arith}
 use lib.Dec.{eqb, ltb}
+use lib.ListN.{getD}
 use borrow.Author.Tests.{eqb-true, eqb-false, eq-eqb, ne-eqb, ltb-true, ltb-false, lt-ltb, le-ltb}
 use Rattle.wire.specs.Choice.{pick}
 use Rattle.nodeset.specs.Below.{lowestBelow, lowest-same, lowest-wider, lowest-first, lowest-holds, lowest-past}
@@ -41,7 +43,21 @@ insert s i =
 unfoldable pub minus : NameSet → NameSet → NameSet
 minus s t = record { low = half.minus (s .low) (t .low); high = half.minus (s .high) (t .high) }
 
+-- ---- sets as numbers
+
+-- the numbers of a set, one for each half, and the set of two numbers
+unfoldable pub numbersOf : NameSet → List ℕ
+numbersOf s = half.numberOf (s .low) ∷ half.numberOf (s .high) ∷ []
+
+unfoldable pub namesOf : List ℕ → NameSet
+namesOf ns = record { low = half.setOf (getD ns 0 0); high = half.setOf (getD ns 1 0) }
+
 -- ---- laws
+
+-- a set is that of its numbers
+pub numbers-back : (s : NameSet) → namesOf (numbersOf s) ≡ s
+unfolding numbersOf namesOf
+numbers-back s = rw (half.number-back (s .low), half.number-back (s .high)) refl
 
 pub has-low : (s : NameSet) (i : ℕ) → i < width → has s i ≡ half.has (s .low) i
 unfolding has

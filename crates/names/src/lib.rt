@@ -9,7 +9,7 @@ ghost use Rattle.pattern.specs.Checks.Finding.{found};
 ghost use Rattle.pattern.specs.File.Types.{maxName};
 ghost use Rattle.pattern.specs.File.Reading.{readingOf};
 ghost use Rattle.pattern.specs.Meaning.Names.{bearsName, hasName, usesName};
-ghost use Rattle.names.specs.Set.{has, SetOf, lowestOf, noName, insert, minus};
+ghost use Rattle.names.specs.Set.{has, SetOf, lowestOf, noName, insert, minus, numbersOf, namesOf};
 
 // A set of names, in two halves: those below NodeSet::WIDTH as they are, the others less NodeSet::WIDTH.
 pub struct NameSet {
@@ -82,6 +82,25 @@ impl NameSet {
         }
         let high = self.high;
         NodeSet::WIDTH + high.lowest()
+    }
+
+    // The set as two numbers, one for each half.
+    pub fn numbers(self) -> [u64; 2]
+        ensures { λ r. ⌜ r ≡ numbersOf self ⌝ }
+    {
+        let low = self.low;
+        let high = self.high;
+        [low.number(), high.number()]
+    }
+
+    // The set of two numbers: that of a set's numbers is the set.
+    pub fn of_numbers(numbers: &[u64; 2]) -> NameSet
+        ensures { λ r. ⌜ r ≡ namesOf (now (numbers .entry)) ⌝ }
+    {
+        NameSet {
+            low: NodeSet::of_number(numbers[0]),
+            high: NodeSet::of_number(numbers[1]),
+        }
     }
 }
 

@@ -70,7 +70,21 @@ minus s t = record { bits = bitXor (s .bits) (bitAnd (s .bits) (t .bits)) }
 unfoldable pub butLowest : NodeSet → NodeSet
 butLowest s = record { bits = bitAnd (s .bits) (s .bits - 1) }
 
+-- ---- sets as numbers
+
+-- the number of a set, and the set of a number
+unfoldable pub numberOf : NodeSet → ℕ
+numberOf s = s .bits
+
+unfoldable pub setOf : ℕ → NodeSet
+setOf n = record { bits = n }
+
 -- ---- laws
+
+-- a set is that of its number
+pub number-back : (s : NodeSet) → setOf (numberOf s) ≡ s
+unfolding numberOf setOf
+number-back s = refl
 
 pub has-beyond : (s : NodeSet) (u : ℕ) → width ≤ u → has s u ≡ false
 unfolding has

@@ -3,7 +3,7 @@ ghost use mathlib.Core.Path.{_≡_};
 ghost use mathlib.Core.Bool.{false};
 ghost use Prim.Native.Nat.{_+_, _%_, _≤_, _<_};
 ghost use lib.ListN.{length};
-ghost use Rattle.nodeset.specs.Set.{width, has, lowestOf, sizeOf, isEmpty, emptySet, below, only, insert, insertIf, union, meet, minus, butLowest};
+ghost use Rattle.nodeset.specs.Set.{width, has, lowestOf, sizeOf, isEmpty, emptySet, below, only, insert, insertIf, union, meet, minus, butLowest, numberOf, setOf};
 ghost use Rattle.nodeset.specs.Stored.{tableBytes, bytesOf, setAt, put};
 
 // A set of the nodes below WIDTH: node u is in it where bit u is 1.
@@ -124,6 +124,20 @@ impl NodeSet {
         ensures { λ r. ⌜ r ≡ sizeOf self ⌝ }
     {
         u64::count_ones(self.bits) as u8
+    }
+
+    // The set as one number, for those who pass sets on where only numbers can be passed.
+    pub fn number(self) -> u64
+        ensures { λ r. ⌜ r ≡ numberOf self ⌝ }
+    {
+        self.bits
+    }
+
+    // The set of a number: that of a set's number is the set.
+    pub fn of_number(number: u64) -> NodeSet
+        ensures { λ r. ⌜ r ≡ setOf number ⌝ }
+    {
+        NodeSet { bits: number }
     }
 
     // Set i of a table.
