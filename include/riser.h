@@ -2,7 +2,10 @@
  *
  * Each function takes any bytes of any length and answers one number, a packed finding. A pointer may
  * be anything, NULL included, where its length is 0. The working area must overlap neither of the other
- * byte strings. Nothing outside the given lengths is read or written. */
+ * byte strings. Nothing outside the given lengths is read or written.
+ *
+ * Stack, measured on the deepest inputs: 2.5 KB for reading, 10.5 KB for judging a model, 16 KB for judging
+ * a tableau. */
 #ifndef RISER_H
 #define RISER_H
 
@@ -43,7 +46,7 @@ uint64_t riser_judge_model(const uint8_t *pattern, size_t pattern_length, const 
 
 /* Judges a tableau for a pattern: RISER_CLOSED, or RISER_REFUSED with number 1 to 9 or 15 to 26. Refusals
  * up to 18 leave the area unchanged; the others, and closed, leave its first 8,192 bytes zero and the
- * rest unchanged. Needs up to 361 KB of stack. */
+ * rest unchanged. */
 uint64_t riser_judge_tableau(const uint8_t *pattern, size_t pattern_length, const uint8_t *tableau,
                              size_t tableau_length, uint8_t *area, size_t area_length);
 

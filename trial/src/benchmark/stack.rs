@@ -65,3 +65,22 @@ fn deepest(top: usize) -> usize {
     };
     below(top).find(used).unwrap_or(top)
 }
+
+#[cfg(test)]
+mod tests {
+    use super::*;
+    use crate::benchmark::inputs;
+    use crate::benchmark::judge::PROVED;
+
+    /// What `include/riser.h` says that any of its functions needs.
+    const STATED: usize = 16 << 10;
+
+    /// That the walk's last call is a jump is the compiler's doing, and no proof says so.
+    #[test]
+    fn the_deepest_cases_keep_to_the_stack_that_the_header_states() {
+        for case in inputs::deepest() {
+            let bytes = bytes(&PROVED, &case);
+            assert!(bytes <= STATED, "{} takes {bytes} bytes", case.name);
+        }
+    }
+}

@@ -132,8 +132,8 @@ fn mutated_tableaux() {
     let shapes = [
         tableaux::exchanges(&pattern, 100),
         tableaux::forks(&pattern, 100),
-        tableaux::left_nested(&pattern, 64),
-        tableaux::right_nested(&pattern, 30),
+        tableaux::nested(&pattern, 0, 64),
+        tableaux::nested(&pattern, 30, 0),
         tableaux::fresh(&pattern, fresh),
         tableaux::fresh(&pattern, Fresh { rule: 14, ..fresh }),
         tableaux::fresh(&pattern, Fresh { mixed: true, ..fresh }),

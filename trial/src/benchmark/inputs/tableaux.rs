@@ -140,26 +140,20 @@ pub fn forks(pattern: &Pattern, steps: usize) -> Tableau {
     leaves(pattern, steps, (steps - OPENING).div_ceil(2), 1, |_, _| ())
 }
 
-/// A fork in the left side of a fork, so many times.
-pub fn left_nested(pattern: &Pattern, forks: usize) -> Tableau {
+/// A fork in the right side of a fork, so many times, and on the last right side a fork in the left side of a
+/// fork, so many times.
+pub fn nested(pattern: &Pattern, right: usize, left: usize) -> Tableau {
     let mut work = Work::new(pattern);
-    for _ in 0..forks {
-        work.fork();
-    }
-    for _ in 0..=forks {
-        work.clash(work.script.last());
-    }
-    work.script.tableau()
-}
-
-/// A fork in the right side of a fork, so many times.
-pub fn right_nested(pattern: &Pattern, forks: usize) -> Tableau {
-    let mut work = Work::new(pattern);
-    for _ in 0..forks {
+    for _ in 0..right {
         work.fork();
         work.clash(work.script.last());
     }
-    work.clash(work.script.last());
+    for _ in 0..left {
+        work.fork();
+    }
+    for _ in 0..=left {
+        work.clash(work.script.last());
+    }
     work.script.tableau()
 }
 
@@ -227,8 +221,9 @@ pub fn deep_cases() -> Vec<Case> {
     let fourteen = Fresh { rule: 14, ..LONGEST_SEARCHES };
     let mixed = Fresh { mixed: true, ..LONGEST_SEARCHES };
     vec![
-        judged("64 forks nested left", small, |pattern| left_nested(pattern, 64)),
-        judged("1,014 forks nested right", small, |pattern| right_nested(pattern, 1014)),
+        judged("64 forks nested left", small, |pattern| nested(pattern, 0, 64)),
+        judged("1,014 forks nested right", small, |pattern| nested(pattern, 1014, 0)),
+        judged("950 nested right, then 64 left", small, |pattern| nested(pattern, 950, 64)),
         judged("fresh names, 900 lines", small, |pattern| fresh(pattern, LONGEST_SEARCHES)),
         judged("fresh names, mixed lines", small, |pattern| fresh(pattern, mixed)),
         judged("fresh names, 255 entries", large, |pattern| fresh(pattern, LONGEST_SEARCHES)),
