@@ -14,6 +14,7 @@ use Rattle.pattern.specs.declared.types.Channel.{Channel}
 use Rattle.pattern.specs.declared.types.Sign.{Sign}
 use Rattle.pattern.specs.declared.types.Comparison.{Comparison}
 use Rattle.pattern.specs.File.Types.{channelNumber}
+use Rattle.lines.specs.declared.line.Form.{Form}
 use Rattle.lines.specs.declared.line.HasLine.{HasLine}
 use Rattle.lines.specs.declared.line.IsLine.{IsLine}
 use Rattle.lines.specs.declared.line.EdgeLine.{EdgeLine}
@@ -51,9 +52,15 @@ bytesOf (Line.Compare l) =
     comparisonForm ∷ signNumber (l .sign) ∷ comparisonNumber (l .comparison) ∷ channelNumber (l .channel) ∷ l .left .name .number
     ∷ l .left .path ∷ l .right .name .number ∷ l .right .path ∷ []
 
--- the byte of line k's form
-abbrev pub formAt : List ℕ → ℕ → ℕ
-formAt xs k = getD xs (8 * k) 0
+-- the form of line k: of a byte that is none of the first three, a comparison
+abbrev pub formOf : ℕ → Form
+formOf zero = Form.Has
+formOf (suc zero) = Form.Is
+formOf (suc (suc zero)) = Form.Edge
+formOf (suc (suc (suc n))) = Form.Compare
+
+abbrev pub formAt : List ℕ → ℕ → Form
+formAt xs k = formOf (getD xs (8 * k) 0)
 
 -- line k as a line of each form; of a sign, a comparison and a channel the lowest bits are read
 abbrev pub hasAt : List ℕ → ℕ → HasLine
@@ -74,11 +81,11 @@ compareAt xs k = record {
   right = side (name (getD xs (8 * k + 6) 0)) (getD xs (8 * k + 7) 0);
 }
 
-abbrev pub lineOfForm : ℕ → List ℕ → ℕ → Line
-lineOfForm zero xs k = Line.Has (hasAt xs k)
-lineOfForm (suc zero) xs k = Line.Is (isAt xs k)
-lineOfForm (suc (suc zero)) xs k = Line.Edge (edgeAt xs k)
-lineOfForm (suc (suc (suc n))) xs k = Line.Compare (compareAt xs k)
+abbrev pub lineOfForm : Form → List ℕ → ℕ → Line
+lineOfForm Form.Has xs k = Line.Has (hasAt xs k)
+lineOfForm Form.Is xs k = Line.Is (isAt xs k)
+lineOfForm Form.Edge xs k = Line.Edge (edgeAt xs k)
+lineOfForm Form.Compare xs k = Line.Compare (compareAt xs k)
 
 -- line k of the lent bytes
 unfoldable pub lineAt : List ℕ → ℕ → Line
@@ -103,46 +110,34 @@ pub comparison-beyond : (n : ℕ) → (n ≡ 0 → ⊥) → comparisonAt n ≡ C
 comparison-beyond zero h = absurd (h refl)
 comparison-beyond (suc n) h = refl
 
--- line k by its form
-module _ (xs : List ℕ) (k : ℕ) where
-  pub has-form : formAt xs k ≡ 0 → lineAt xs k ≡ Line.Has (hasAt xs k)
-  unfolding lineAt
-  has-form e = rw e refl
+pub form-beyond : (n : ℕ) → (n ≡ 0 → ⊥) → (n ≡ 1 → ⊥) → (n ≡ 2 → ⊥) → formOf n ≡ Form.Compare
+form-beyond zero x y z = absurd (x refl)
+form-beyond (suc zero) x y z = absurd (y refl)
+form-beyond (suc (suc zero)) x y z = absurd (z refl)
+form-beyond (suc (suc (suc n))) x y z = refl
 
-  pub is-form : formAt xs k ≡ 1 → lineAt xs k ≡ Line.Is (isAt xs k)
-  unfolding lineAt
-  is-form e = rw e refl
-
-  pub edge-form : formAt xs k ≡ 2 → lineAt xs k ≡ Line.Edge (edgeAt xs k)
-  unfolding lineAt
-  edge-form e = rw e refl
-
-  -- a form that is none of the first three
-  pub compare-form : (formAt xs k ≡ 0 → ⊥) → (formAt xs k ≡ 1 → ⊥) → (formAt xs k ≡ 2 → ⊥) → lineAt xs k ≡ Line.Compare (compareAt xs k)
-  unfolding lineAt
-  compare-form = go (formAt xs k)
-    where
-      go : (n : ℕ) → (n ≡ 0 → ⊥) → (n ≡ 1 → ⊥) → (n ≡ 2 → ⊥) → lineOfForm n xs k ≡ Line.Compare (compareAt xs k)
-      go zero x y z = absurd (x refl)
-      go (suc zero) x y z = absurd (y refl)
-      go (suc (suc zero)) x y z = absurd (z refl)
-      go (suc (suc (suc n))) x y z = refl
+-- line k where its form is known
+pub line-of-form : (xs : List ℕ) (k : ℕ) {form : Form} → formAt xs k ≡ form → lineAt xs k ≡ lineOfForm form xs k
+unfolding lineAt
+line-of-form xs k e = ap (λ (form : Form). lineOfForm form xs k) e
 
 -- the names of a comparison are at bytes 4 and 6
-pub compared-names : (xs : List ℕ) (k i : ℕ) → 2 < formAt xs k
+pub compared-names : (xs : List ℕ) (k i : ℕ) → 2 < getD xs (8 * k) 0
     → lineHas (lineAt xs k) i ≡ eqb (getD xs (8 * k + 4) 0) i || eqb (getD xs (8 * k + 6) 0) i
-compared-names xs k i h = rw (compare-form xs k (λ e. omega (arith, h, e)) (λ e. omega (arith, h, e)) (λ e. omega (arith, h, e))) refl
+compared-names xs k i h =
+    let other = form-beyond (getD xs (8 * k) 0) (λ e. omega (arith, h, e)) (λ e. omega (arith, h, e)) (λ e. omega (arith, h, e)) in
+    ap (λ (l : Line). lineHas l i) (line-of-form xs k other)
 
 -- those of the other forms at bytes 2 and 3; a line of the first form has one
-pub other-names : (xs : List ℕ) (k i : ℕ) → formAt xs k ≤ 2
-    → lineHas (lineAt xs k) i ≡ eqb (getD xs (8 * k + 2) 0) i || (eqb (getD xs (8 * k + 3) 0) i && not (eqb (formAt xs k) 0))
+pub other-names : (xs : List ℕ) (k i : ℕ) → getD xs (8 * k) 0 ≤ 2
+    → lineHas (lineAt xs k) i ≡ eqb (getD xs (8 * k + 2) 0) i || (eqb (getD xs (8 * k + 3) 0) i && not (eqb (getD xs (8 * k) 0) 0))
 unfolding lineAt
-other-names xs k i = go (formAt xs k)
+other-names xs k i = go (getD xs (8 * k) 0)
   where
     second : Bool
     second = eqb (getD xs (8 * k + 3) 0) i
 
-    go : (n : ℕ) → n ≤ 2 → lineHas (lineOfForm n xs k) i ≡ eqb (getD xs (8 * k + 2) 0) i || (second && not (eqb n 0))
+    go : (n : ℕ) → n ≤ 2 → lineHas (lineOfForm (formOf n) xs k) i ≡ eqb (getD xs (8 * k + 2) 0) i || (second && not (eqb n 0))
     go zero l = rw (and-false second) (sym (or-false (eqb (getD xs (8 * k + 2) 0) i)))
     go (suc zero) l = rw (and-true second) refl
     go (suc (suc zero)) l = rw (and-true second) refl
@@ -185,16 +180,16 @@ bytes-length (Line.Compare l) = refl
 -- equal bytes make equal lines
 line-same : (xs ys : List ℕ) (k m : ℕ) → ((j : ℕ) → j < 8 → getD xs (8 * k + j) 0 ≡ getD ys (8 * m + j) 0) → lineAt xs k ≡ lineAt ys m
 unfolding lineAt
-line-same xs ys k m h = rw form (go (formAt ys m))
+line-same xs ys k m h = ap (λ (form : Form). lineOfForm form xs k) (ap formOf byte) ∙ go (formAt ys m)
   where
-    form : formAt xs k ≡ formAt ys m
-    form = sym (ap (λ (n : ℕ). getD xs n 0) (add-zero (8 * k))) ∙ h 0 (omega arith) ∙ ap (λ (n : ℕ). getD ys n 0) (add-zero (8 * m))
+    byte : getD xs (8 * k) 0 ≡ getD ys (8 * m) 0
+    byte = sym (ap (λ (n : ℕ). getD xs n 0) (add-zero (8 * k))) ∙ h 0 (omega arith) ∙ ap (λ (n : ℕ). getD ys n 0) (add-zero (8 * m))
 
-    go : (n : ℕ) → lineOfForm n xs k ≡ lineOfForm n ys m
-    go zero = rw (h 1 (omega arith), h 2 (omega arith), h 3 (omega arith)) refl
-    go (suc zero) = rw (h 1 (omega arith), h 2 (omega arith), h 3 (omega arith)) refl
-    go (suc (suc zero)) = rw (h 1 (omega arith), h 2 (omega arith), h 3 (omega arith)) refl
-    go (suc (suc (suc n))) =
+    go : (form : Form) → lineOfForm form xs k ≡ lineOfForm form ys m
+    go Form.Has = rw (h 1 (omega arith), h 2 (omega arith), h 3 (omega arith)) refl
+    go Form.Is = rw (h 1 (omega arith), h 2 (omega arith), h 3 (omega arith)) refl
+    go Form.Edge = rw (h 1 (omega arith), h 2 (omega arith), h 3 (omega arith)) refl
+    go Form.Compare =
         rw (
           h 1 (omega arith),
           h 2 (omega arith),

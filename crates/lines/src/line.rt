@@ -45,6 +45,14 @@ pub struct CompareLine {
     pub right: Side,
 }
 
+// The form of a line, without its parts.
+pub enum Form {
+    Has,
+    Is,
+    Edge,
+    Compare,
+}
+
 pub enum Line {
     Has(HasLine),
     Is(IsLine),

@@ -1,6 +1,7 @@
 // Lines in lent bytes, eight a line.
 use crate::line::CompareLine;
 use crate::line::EdgeLine;
+use crate::line::Form;
 use crate::line::HasLine;
 use crate::line::IsLine;
 use crate::line::Line;
@@ -104,12 +105,17 @@ fn bytes(line: Line) -> [u8; 8]
     }
 }
 
-// The byte of line k's form.
-pub fn form_at(area: &[u8], k: usize) -> u8
+// The form of line k.
+pub fn form_at(area: &[u8], k: usize) -> Form
     requires { ⌜ 8 * (k + 1) ≤ length (now area) ⌝ }
     ensures { λ r. ⌜ r ≡ formAt (now (area .entry)) k ⌝ }
 {
-    area[8 * k]
+    match area[8 * k] {
+        0 => Form::Has,
+        1 => Form::Is,
+        2 => Form::Edge,
+        _ => Form::Compare,
+    }
 }
 
 // Line k as a has/lacks line. Of a sign, a comparison and a channel the lowest bits are read: that takes
@@ -195,10 +201,10 @@ pub fn load(area: &[u8], k: usize) -> Line
     ensures { λ r. ⌜ r ≡ lineAt (now (area .entry)) k ⌝ }
 {
     match form_at(area, k) {
-        0 => Line::Has(load_has(area, k)),
-        1 => Line::Is(load_is(area, k)),
-        2 => Line::Edge(load_edge(area, k)),
-        _ => Line::Compare(load_compare(area, k)),
+        Form::Has => Line::Has(load_has(area, k)),
+        Form::Is => Line::Is(load_is(area, k)),
+        Form::Edge => Line::Edge(load_edge(area, k)),
+        Form::Compare => Line::Compare(load_compare(area, k)),
     }
 }
 

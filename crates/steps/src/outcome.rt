@@ -7,6 +7,7 @@ use compare_rules::rule21;
 use compare_rules::rule22;
 use compare_rules::rule23;
 use lines::form_at;
+use lines::line::Form;
 use lines::load;
 use lines::load_compare;
 use lines::load_has;
@@ -61,9 +62,9 @@ pub fn outcome(
     ensures { λ r. ⌜ r ≡ ruleAt rule .outcome (now (p .entry)) (lineAt (now (area .entry)) first) (lineAt (now (area .entry)) second) argument ⌝ }
 {
     match form_at(area, first) {
-        0 => has_rules::outcome(p, area, rule, load_has(area, first), second, argument),
-        1 => is_rules::outcome(area, rule, load_is(area, first), second, argument),
-        2 => Outcome::Unfit,
-        _ => compare(p, area, rule, first, second, argument),
+        Form::Has => has_rules::outcome(p, area, rule, load_has(area, first), second, argument),
+        Form::Is => is_rules::outcome(area, rule, load_is(area, first), second, argument),
+        Form::Edge => Outcome::Unfit,
+        Form::Compare => compare(p, area, rule, first, second, argument),
     }
 }
