@@ -1,4 +1,4 @@
--- How the walk over a branch ends: the counts, as the code counts, and what is found then.
+-- How the walk over a branch ends: the counts, as the code counts, the walk's answer, a number, and what is found then.
 -- Assumes nothing.
 use mathlib.Core.Bool.{Bool, true, false}
 use mathlib.Core.List.{List}
@@ -34,9 +34,13 @@ countFork n = record { clashes = n .clashes; forks = n .forks + 1; most = n .mos
 abbrev pub firstRefusal : ℕ
 firstRefusal = 65536
 
+-- the answer of a walk that is refused so
+abbrev pub codeOf : WalkRefusal → ℕ
+codeOf refusal = walkNumber refusal * firstRefusal + walkPlace refusal
+
 -- the refusal of this number and place, 01's 19 to 26; a number that no refusal has stands for the last
-abbrev pub refusalOf : ℕ → ℕ → WalkRefusal
-refusalOf n k =
+abbrev pub walkRefusalOf : ℕ → ℕ → WalkRefusal
+walkRefusalOf n k =
     pick (eqb n 19) (WalkRefusal.Step (StepRefusal.Rule k)) (pick (eqb n 20) (WalkRefusal.Step (StepRefusal.Field k))
     (pick (eqb n 21) (WalkRefusal.Step (StepRefusal.Fit k)) (pick (eqb n 22) (WalkRefusal.Step (StepRefusal.Fresh k))
     (pick (eqb n 23) (WalkRefusal.Lines k) (pick (eqb n 24) (WalkRefusal.Waiting k) (pick (eqb n 25) (WalkRefusal.AllClosed k)
@@ -46,7 +50,7 @@ refusalOf n k =
 -- it the place
 unfoldable pub endOf : ℕ → Counts → BranchEnd
 endOf answer c =
-    pick (ltb answer firstRefusal) (BranchEnd.Closed answer c) (BranchEnd.Refused (refusalOf (answer / firstRefusal) (answer % firstRefusal)))
+    pick (ltb answer firstRefusal) (BranchEnd.Closed answer c) (BranchEnd.Refused (walkRefusalOf (answer / firstRefusal) (answer % firstRefusal)))
 
 -- ---- what is found
 
@@ -66,12 +70,12 @@ unfolding endOf
 end-closed k c h = rw (lt-ltb k firstRefusal h) refl
 
 pub end-refused : (answer : ℕ) (c : Counts) → firstRefusal ≤ answer
-    → endOf answer c ≡ BranchEnd.Refused (refusalOf (answer / firstRefusal) (answer % firstRefusal))
+    → endOf answer c ≡ BranchEnd.Refused (walkRefusalOf (answer / firstRefusal) (answer % firstRefusal))
 unfolding endOf
 end-refused answer c h = rw (le-ltb answer firstRefusal h) refl
 
 -- a refusal is that of its number and place
-refusal-back : (r : WalkRefusal) → refusalOf (walkNumber r) (walkPlace r) ≡ r
+refusal-back : (r : WalkRefusal) → walkRefusalOf (walkNumber r) (walkPlace r) ≡ r
 refusal-back (WalkRefusal.Step (StepRefusal.Rule k)) = refl
 refusal-back (WalkRefusal.Step (StepRefusal.Field k)) = refl
 refusal-back (WalkRefusal.Step (StepRefusal.Fit k)) = refl
@@ -93,7 +97,7 @@ some-number (WalkRefusal.AllClosed k) = omega arith
 some-number (WalkRefusal.StillOpen k) = omega arith
 
 -- and a walk whose answer has both ends with it
-pub end-code : (r : WalkRefusal) → walkPlace r < firstRefusal → (c : Counts) → endOf (walkNumber r * firstRefusal + walkPlace r) c ≡ BranchEnd.Refused r
+pub end-code : (r : WalkRefusal) → walkPlace r < firstRefusal → (c : Counts) → endOf (codeOf r) c ≡ BranchEnd.Refused r
 end-code r h c =
     let n = walkNumber r in
     let k = walkPlace r in

@@ -12,7 +12,7 @@ ghost use Prim.Native.Nat.{_<_};
 ghost use Rattle.tableau.specs.declared.finding.Counts.{Counts};
 ghost use Rattle.tableau.specs.Judging.{findingOf};
 ghost use Rattle.branch_end.specs.declared.BranchEnd.{BranchEnd};
-ghost use Rattle.branch_end.specs.Ends.{countsOf, countClash, countFork, refusalOf, endOf, finished};
+ghost use Rattle.branch_end.specs.Ends.{countsOf, countClash, countFork, codeOf, walkRefusalOf, endOf, finished};
 
 // How the walk over a branch ends: it is closed, with the number of the next step and the counts; or
 // a refusal.
@@ -22,7 +22,7 @@ pub enum BranchEnd {
 }
 
 // A walk's answer is one number. Below this one the branch is closed, and the answer is the number of
-// the next step; from it on the answer is a refusal's number times this one, and its place.
+// the next step; from it on the answer is a refusal's number times this one, plus its place.
 pub const FIRST_REFUSAL: u32 = 65536;
 
 // Counts a clash on a branch of so many lines. Here and at a fork the array is written whole: of one
@@ -50,14 +50,15 @@ pub fn count_fork(counts: &mut [u16; 3])
 
 // The answer of a walk that is refused so.
 pub fn refusal_code(refusal: WalkRefusal) -> u32
-    ensures { λ r. ⌜ ((c : Counts) → endOf r c ≡ BranchEnd.Refused refusal) ⌝ }
+    ensures code { λ r. ⌜ r ≡ codeOf refusal ⌝ }
+    ensures ends { λ r. ⌜ ((c : Counts) → endOf r c ≡ BranchEnd.Refused refusal) ⌝ }
 {
     refusal.number() as u32 * FIRST_REFUSAL + refusal.place() as u32
 }
 
 // The refusal of this number and place; a number that no refusal has stands for the last.
 fn refusal_of(number: u32, place: u16) -> WalkRefusal
-    ensures { λ r. ⌜ r ≡ refusalOf number place ⌝ }
+    ensures { λ r. ⌜ r ≡ walkRefusalOf number place ⌝ }
 {
     match number {
         19 => WalkRefusal::Step(StepRefusal::Rule(place)),

@@ -178,7 +178,8 @@ fn straight(
 // The call for the right side comes last and is to be a jump, so that the stack doesn't grow with right
 // sides. The compiler makes it one only where each argument is a number or a plain reference and the
 // answer is a number; of a slice, a struct or an enum it passes the address of a copy. So the slices come
-// by references to them, the set of names as two numbers and the counts in an array.
+// by references to them, the set of names as two numbers and the counts in an array. `long` and `same`:
+// the reference still leads to the caller's slice, as long as it was.
 fn walk(
     p: &&[u8],
     used: &[u64; 2],
@@ -192,14 +193,12 @@ fn walk(
 ) -> u32
     requires { ⌜ WalkLent (now (now p)) (now (now steps)) s (now (now area)) k len ⌝ }
     requires { ⌜ SetOf (usesName (now (now p))) (namesOf (now used)) ⌝ }
-    requires { ⌜ waiting ≤ maxWaiting ⌝ }
-    requires { ⌜ Bounded k (countsOf (now counts)) ⌝ }
+    requires { ⌜ (waiting ≤ maxWaiting) × Bounded k (countsOf (now counts)) ⌝ }
     ensures walks { λ r. ⌜ Walked (now (now (p .entry))) (now (now (steps .entry))) s (now (now (area .entry))) k len waiting (now (counts .entry)) r (now (counts .exit)) (now (now (area .exit))) ⌝ }
     ensures long { λ r. ⌜ length (now (now (area .exit))) ≡ length (now (now (area .entry))) ⌝ }
     ensures same { λ r. ⌜ name (now (area .exit)) ≡ name (now (area .entry)) ⌝ }
 {
-    let names = NameSet::of_numbers(used);
-    match straight(*p, names, *steps, s, *area, k, len) {
+    match straight(*p, NameSet::of_numbers(used), *steps, s, *area, k, len) {
         Stop::Refused(refusal) => refusal_code(refusal),
         Stop::Clash(at, lines) => {
             count_clash(counts, lines);
@@ -222,8 +221,8 @@ fn walk(
     }
 }
 
-// Walks over the first branch, of one line, from step 0 on. The slice is handed back as it was handed
-// in: only so may the variable that holds it be lent to the walk.
+// Walks over the first branch, of one line, from step 0 on. The area is handed back, the same slice:
+// only so may the variable that holds it be lent to the walk.
 fn walk_first<'a>(
     p: &[u8],
     used: &[u64; 2],

@@ -1,8 +1,9 @@
 -- `branch_end::refusal_code` meets its contract: the number is above the place, which has 16 bits.
 -- Assumes nothing.
 use borrow.Author.Needs.{needs}
-use Prim.Native.Nat.{_<_}
-use Rattle.branch_end.specs.Ends.{end-code}
+use mathlib.Core.Path.{_≡_, refl}
+use Prim.Native.Nat.{_+_, _*_, _<_}
+use Rattle.branch_end.specs.Ends.{firstRefusal, codeOf, end-code}
 use Rattle.branch_end.proofs.refusal_code.Statement.{statement}
 use Rattle.branch_end.proofs.refusal_code.Tie as tie
 
@@ -26,8 +27,10 @@ add-result c = search needs
 
 returns : tie.Need-returns
 returns c =
-    let few : c .place .result < 65536 = search needs in
-    rw (c .before .number .ensures, c .place .ensures) (end-code (c .before .before .args .refusal) (rw (c .place .ensures) at few))
+    let few : c .place .result < firstRefusal = search needs in
+    let refusal = c .before .before .args .refusal in
+    let code : c .before .number .result * firstRefusal + c .place .result ≡ codeOf refusal = rw (c .before .number .ensures, c .place .ensures) refl in
+    (code, λ counts. rw code (end-code refusal (rw (c .place .ensures) at few) counts))
 
 pub refusal-code-spec : {M : Type 1} → statement M
 refusal-code-spec =

@@ -172,7 +172,11 @@ module _ (t : ℕ) where
   closed g = g .before .before .before .before
 
   left-closed : (g : Fork-right) → LeftEnds (closed g) (BranchEnd.Closed (closed g .walk .result) (left-counts (closed g)))
-  left-closed g = let w = closed g in subst (LeftEnds w) (end-closed (w .walk .result) (left-counts w) (g .before .before .before .if2 .left)) (left-ends w)
+  left-closed g =
+      let w = closed g in
+      let next = w .walk .result in
+      let below : next < firstRefusal = omega (arith, g .before .before .before .if2 .left) in
+      subst (LeftEnds w) (end-closed next (left-counts w) below) (left-ends w)
 
   -- the right side's own line is stored behind the lines before the fork
   stored : (g : Fork-right) → let f = behind (closed g) in g .before .store2 .last .0 ≡ putLine (left-branch (closed g)) (lines f) (right f)
@@ -188,8 +192,9 @@ module _ (t : ℕ) where
 
   walk-straight-requires : walk-lts.Need-straight-requires walk-claims walk-at walk.Post
   walk-straight-requires c κs =
-      let names = c .before .before .before in
-      (names .before .pre .1 .0, rw (names .of-numbers .ensures) (names .before .pre .1 .1 .0))
+      let names = c .before .before in
+      let s = names .before .before in
+      (s .pre .1 .0, rw (names .of-numbers .ensures) (s .pre .1 .1 .0))
 
   walk-enum-known-refusal : walk-lts.Need-enum-known-refusal walk-claims walk-at walk.Post
   walk-enum-known-refusal c = search needs
@@ -219,7 +224,7 @@ module _ (t : ℕ) where
   walk-returns c =
       let f = c .before .before in
       let crowded = walk-crowded (fork-stops f) (c .before .if1 .taken) in
-      (subst (EndsAt (at-fork f)) (sym (c .refusal-code2 .ensures _)) crowded, (kept (at-fork f), refl))
+      (subst (EndsAt (at-fork f)) (sym (c .refusal-code2 .ensures .1 _)) crowded, (kept (at-fork f), refl))
 
   walk-add-more : walk-lts.Need-add-more walk-claims walk-at walk.Post
   walk-add-more c = let stops = fork-stops (c .before) in omega (arith, stops .says .1 .1)
@@ -293,7 +298,7 @@ module _ (t : ℕ) where
   walk-returns-3 c =
       let f = c .before .before .before .before in
       let stops = subst (StopsAt f) (c .before .before .refusal .given .1) (f .straight .ensures) in
-      (subst (EndsAt f) (sym (c .refusal-code .ensures _)) (walk-refused stops), (kept f, refl))
+      (subst (EndsAt f) (sym (c .refusal-code .ensures .1 _)) (walk-refused stops), (kept f, refl))
 
   walk-returns-4 : walk-lts.Need-returns-4 walk-claims walk-at walk.Post
   walk-returns-4 c =
