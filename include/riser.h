@@ -4,8 +4,8 @@
  * be anything, NULL included, where its length is 0. The working area must overlap neither of the other
  * byte strings. Nothing outside the given lengths is read or written.
  *
- * Stack, measured on the deepest inputs: 2.5 KB for reading, 10.5 KB for judging a model, 16 KB for judging
- * a tableau. */
+ * Stack that was enough on the deepest inputs: 2.5 KB for reading, 10.5 KB for judging a model, 16 KB for
+ * judging a tableau. */
 #ifndef RISER_H
 #define RISER_H
 

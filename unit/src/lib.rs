@@ -8,8 +8,8 @@
 //! assert_eq!(finding, unit::Finding::Met { lowest: 0, number: 1 });
 //! ```
 //!
-//! Stack, measured on the deepest inputs: 2.5 KB for reading, 10.5 KB for judging a model, 16 KB for judging a
-//! tableau.
+//! Stack that was enough on the deepest inputs: 2.5 KB for reading, 10.5 KB for judging a model, 16 KB for
+//! judging a tableau.
 
 use std::fmt;
 

@@ -168,8 +168,8 @@ fn rule15(l: CompareLine, e: Entry, q: Line) -> Outcome
     one_if(fits, going_from(l, k, e.y))
 }
 
-// What the rules 9 to 15 conclude, which go by the left path; at its end they conclude nothing. Q is
-// line q of the area, which is read by rule 15 alone. Any other rule here doesn't fit.
+// What the rules 9 to 15 conclude, which go by the left path; at its end they conclude nothing, and any
+// other rule here doesn't fit. Q is line q of the area, which rule 15 alone reads.
 pub fn outcome(p: &[u8], area: &[u8], rule: u8, l: CompareLine, q: usize, argument: u8) -> Outcome
     requires { ⌜ NoneOf rule wholeRules ⌝ }
     requires { ⌜ PathWithin (now p) (l .left .path) ⌝ }

@@ -46,8 +46,8 @@ fn repeats(p: &[u8], k: u8) -> bool
     repeated
 }
 
-// The slot of an entry whose four bytes are w: bits 21 to 31 of its product with Knuth's multiplier, a
-// prime near 2 ^ 32 over the golden ratio, so that entries that are alike get slots far apart.
+// The slot of an entry whose four bytes are w, by multiplicative hashing: bits 21 to 31 of the product
+// with a prime near 2 ^ 32 over the golden ratio, so that entries that are alike get slots far apart.
 fn slot_of(w: u32) -> usize
     ensures { λ r. ⌜ r ≡ slotOf w ⌝ }
 {

@@ -65,8 +65,8 @@ fn field_fault(len: usize, s: Step) -> bool
     argument_fault(uses_argument(s.rule), s.argument)
 }
 
-// What the rule of a step without such a fault makes of its lines and argument. A rule that doesn't use
-// Q is handed line 0.
+// What the rule of a step without such a fault makes of its lines and argument. Where a rule doesn't use
+// Q its number is 0, and the line isn't read.
 fn step_outcome(p: &[u8], area: &[u8], len: usize, s: Step) -> Outcome
     requires { ⌜ Readable (now p) (now area) len ⌝ }
     requires { ⌜ fieldFault (linesFrom (now area) 0 len) s ≡ false ⌝ }

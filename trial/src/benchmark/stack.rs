@@ -69,18 +69,25 @@ fn deepest(top: usize) -> usize {
 #[cfg(test)]
 mod tests {
     use super::*;
+    use crate::benchmark::case::Proposal;
     use crate::benchmark::inputs;
     use crate::benchmark::judge::PROVED;
 
-    /// What `include/riser.h` says that any of its functions needs.
-    const STATED: usize = 16 << 10;
+    /// What `include/riser.h` states for the operation.
+    fn stated(proposal: &Proposal) -> usize {
+        match proposal {
+            Proposal::None => 2560,
+            Proposal::Model(_) => 10_752,
+            Proposal::Tableau(_) => 16_384,
+        }
+    }
 
     /// That the walk's last call is a jump is the compiler's doing, and no proof says so.
     #[test]
     fn the_deepest_cases_keep_to_the_stack_that_the_header_states() {
         for case in inputs::deepest() {
             let bytes = bytes(&PROVED, &case);
-            assert!(bytes <= STATED, "{} takes {bytes} bytes", case.name);
+            assert!(bytes <= stated(&case.proposal), "{} takes {bytes} bytes", case.name);
         }
     }
 }

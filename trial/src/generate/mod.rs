@@ -1,9 +1,10 @@
 //! The inputs of the differential run. Input number i of seed s is a function of (s, i) alone.
 //!
 //! `recipes` makes an input of each kind, of these parts: `patterns` and `crowd` make random patterns, `slots`
-//! those that share slots, `models` random models, `walk` random tableaux; `corpus` keeps what the planner found for them and for
-//! patterns that can't occur, which `contradiction` and `composition` make. `rename`, `asked` and `mutate`
-//! change files, and `limits` writes those at document 01's limits. `area` is the working area.
+//! those whose entries share slots, `models` random models, `walk` random tableaux; `corpus` keeps what the
+//! planner found for them and for patterns that can't occur, which `contradiction` and `composition` make.
+//! `rename`, `asked` and `mutate` change files, and `limits` writes those at document 01's limits. `area` is
+//! the working area.
 
 pub mod area;
 mod asked;

@@ -7,13 +7,13 @@ use std::iter::once;
 
 const SLOTS: u64 = 2048;
 
-/// The slot of an entry, as `crates/pattern_read` has it.
+/// The slot of an entry, as `slot_of` of `crates/pattern_read` has it.
 pub fn slot(entry: [u8; 4]) -> u64 {
     u64::from(u32::from_le_bytes(entry)) * 2_654_435_761 / 2_097_152 % SLOTS
 }
 
 /// A pattern of so many entries in few slots: jumps, and a property as the root. 32 slots are enough for 255
-/// entries: with each path that a jump can go on, two more jumps or so have one of them.
+/// entries: of the 128 jumps that go on with one path, two or so are in these slots.
 pub fn of_few_slots(few: usize, count: usize) -> Pattern {
     let mut taken = BTreeSet::new();
     let mut entries = Vec::new();
@@ -37,6 +37,13 @@ pub fn of_few_slots(few: usize, count: usize) -> Pattern {
 mod tests {
     use super::*;
     use oracle::pattern::parse;
+
+    #[test]
+    fn slots_are_those_of_the_proved_reader() {
+        let reader = include_str!("../../../crates/pattern_read/src/repeats.rt");
+        assert!(reader.contains("const SLOTS: usize = 2048;"));
+        assert!(reader.contains("((w as u64) * 2654435761 / 2097152 % (SLOTS as u64)) as usize"));
+    }
 
     #[test]
     fn patterns_of_few_slots_are_read() {

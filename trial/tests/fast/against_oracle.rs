@@ -132,8 +132,8 @@ fn mutated_tableaux() {
     let shapes = [
         tableaux::exchanges(&pattern, 100),
         tableaux::forks(&pattern, 100),
-        tableaux::nested(&pattern, 0, 64),
-        tableaux::nested(&pattern, 30, 0),
+        tableaux::nested(&pattern, 0, 64, |_| ()),
+        tableaux::nested(&pattern, 30, 0, |_| ()),
         tableaux::fresh(&pattern, fresh),
         tableaux::fresh(&pattern, Fresh { rule: 14, ..fresh }),
         tableaux::fresh(&pattern, Fresh { mixed: true, ..fresh }),

@@ -77,6 +77,14 @@ impl<'a> Work<'a> {
         self.tree(more - more / 2, leaf);
     }
 
+    /// A fork in the right side of a fork, so many times.
+    fn nest_right(&mut self, times: usize) {
+        for _ in 0..times {
+            self.fork();
+            self.clash(self.script.last());
+        }
+    }
+
     /// Exchanges the sides of the comparison so many times.
     fn exchange(&mut self, times: usize) {
         let mut line = self.comparison;
@@ -141,17 +149,17 @@ pub fn forks(pattern: &Pattern, steps: usize) -> Tableau {
 }
 
 /// A fork in the right side of a fork, so many times, and on the last right side a fork in the left side of a
-/// fork, so many times.
-pub fn nested(pattern: &Pattern, right: usize, left: usize) -> Tableau {
+/// fork, so many times; the innermost left side is worked on.
+pub fn nested(pattern: &Pattern, right: usize, left: usize, innermost: impl Fn(&mut Work)) -> Tableau {
     let mut work = Work::new(pattern);
-    for _ in 0..right {
-        work.fork();
-        work.clash(work.script.last());
-    }
+    work.nest_right(right);
     for _ in 0..left {
         work.fork();
     }
-    for _ in 0..=left {
+    let lacks = work.script.last();
+    innermost(&mut work);
+    work.clash(lacks);
+    for _ in 0..left {
         work.clash(work.script.last());
     }
     work.script.tableau()
@@ -221,9 +229,19 @@ pub fn deep_cases() -> Vec<Case> {
     let fourteen = Fresh { rule: 14, ..LONGEST_SEARCHES };
     let mixed = Fresh { mixed: true, ..LONGEST_SEARCHES };
     vec![
-        judged("64 forks nested left", small, |pattern| nested(pattern, 0, 64)),
-        judged("1,014 forks nested right", small, |pattern| nested(pattern, 1014, 0)),
-        judged("950 nested right, then 64 left", small, |pattern| nested(pattern, 950, 64)),
+        judged("64 forks nested left", small, |pattern| nested(pattern, 0, 64, |_| ())),
+        judged("1,014 forks nested right", small, |pattern| nested(pattern, 1014, 0, |_| ())),
+        judged("950 nested right, then 64 left", small, |pattern| nested(pattern, 950, 64, |_| ())),
+        judged("64 nested left, then 950 right", small, |pattern| {
+            nested(pattern, 0, 64, |work| work.nest_right(950))
+        }),
+        judged("64 nested left, then names", large, |pattern| {
+            nested(pattern, 0, 64, |work| {
+                work.name(5, 50);
+                work.exchange(50);
+                work.name(14, 50);
+            })
+        }),
         judged("fresh names, 900 lines", small, |pattern| fresh(pattern, LONGEST_SEARCHES)),
         judged("fresh names, mixed lines", small, |pattern| fresh(pattern, mixed)),
         judged("fresh names, 255 entries", large, |pattern| fresh(pattern, LONGEST_SEARCHES)),
