@@ -232,14 +232,13 @@ pub fn deep_cases() -> Vec<Case> {
         judged("64 forks nested left", small, |pattern| nested(pattern, 0, 64, |_| ())),
         judged("1,014 forks nested right", small, |pattern| nested(pattern, 1014, 0, |_| ())),
         judged("950 nested right, then 64 left", small, |pattern| nested(pattern, 950, 64, |_| ())),
-        judged("64 nested left, then 950 right", small, |pattern| {
-            nested(pattern, 0, 64, |work| work.nest_right(950))
+        judged("63 nested left, then 950 right", small, |pattern| {
+            nested(pattern, 0, 63, |work| work.nest_right(950))
         }),
         judged("64 nested left, then names", large, |pattern| {
             nested(pattern, 0, 64, |work| {
-                work.name(5, 50);
-                work.exchange(50);
-                work.name(14, 50);
+                work.exchange(100);
+                work.name(14, 100);
             })
         }),
         judged("fresh names, 900 lines", small, |pattern| fresh(pattern, LONGEST_SEARCHES)),
