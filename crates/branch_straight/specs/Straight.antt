@@ -8,7 +8,7 @@ use Rattle.pattern.specs.Checks.Finding.{Finding, found, refused}
 use Rattle.lines.specs.declared.line.Line.{Line}
 use Rattle.rules.specs.declared.conclusion.Conclusion.{Conclusion}
 use Rattle.rules.specs.Sides.{sides}
-use Rattle.lines.specs.Stored.{lineAt, linesFrom, putLine}
+use Rattle.branch_lines.specs.Stored.{lineAt, linesFrom, putLine}
 use Rattle.steps.specs.AtStep.{AtStep}
 use Rattle.steps.specs.Steps.{stepAt, stepsFrom, stepping}
 use Rattle.tableau.specs.declared.finding.Counts.{Counts}

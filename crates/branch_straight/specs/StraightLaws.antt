@@ -19,7 +19,7 @@ use Rattle.rules.specs.declared.conclusion.Conclusion.{Conclusion}
 use Rattle.steps.specs.declared.step.StepRefusal.{StepRefusal}
 use Rattle.steps.specs.declared.step.StepAnswer.{StepAnswer}
 use Rattle.lines.specs.Formed.{Formed, AllFormed}
-use Rattle.lines.specs.Stored.{lineAt, linesFrom, putLine, length-put, put-same, put-other, length-lines, push-line}
+use Rattle.branch_lines.specs.Stored.{lineAt, linesFrom, putLine, length-put, put-same, put-other, length-lines, push-line}
 use Rattle.soundness.specs.FormedRules.{EachFormed, FormedConclusion, step-formed}
 use Rattle.steps.specs.Steps.{stepAt, stepsFrom, stepping, answerOf, found-follows}
 use Rattle.tableau.specs.declared.finding.Counts.{Counts}

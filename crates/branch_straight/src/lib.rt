@@ -1,7 +1,7 @@
 // The straight part of a branch: the steps that add lines to it, up to the clash, fork or refusal that
 // ends them. Line k of the branch stands in block k of the area.
+use branch_lines::store;
 use lines::line::Line;
-use lines::store;
 use names::NameSet;
 use rules::conclusion::Conclusion;
 use steps::step::Step;
@@ -13,7 +13,7 @@ ghost use Prim.Native.Nat.{_+_, _≤_, _<_};
 ghost use lib.ListN.{length};
 ghost use Rattle.pattern.specs.Meaning.Names.{usesName};
 ghost use Rattle.names.specs.Set.{SetOf};
-ghost use Rattle.lines.specs.Stored.{putLine};
+ghost use Rattle.branch_lines.specs.Stored.{putLine};
 ghost use Rattle.rules.specs.Sides.{sides};
 ghost use Rattle.tableau.specs.Run.{longest, maxLines};
 ghost use Rattle.tableau.specs.Judging.{areaNeed};

@@ -9,7 +9,7 @@ use Rattle.pattern.specs.declared.types.Sign.{Sign}
 use Rattle.pattern.specs.Checks.Finding.{Finding, refused}
 use Rattle.lines.specs.declared.line.Line.{Line}
 use Rattle.lines.specs.Lines.{has}
-use Rattle.lines.specs.Stored.{linesFrom}
+use Rattle.branch_lines.specs.Stored.{linesFrom}
 use Rattle.steps.specs.Steps.{stepsFrom}
 use Rattle.tableau.specs.declared.finding.Counts.{Counts}
 use Rattle.tableau.specs.declared.finding.Closed.{Closed}

@@ -21,7 +21,7 @@ use Rattle.rules.specs.declared.conclusion.Conclusion.{Conclusion}
 use Rattle.steps.specs.declared.step.StepRefusal.{StepRefusal}
 use Rattle.lines.specs.Lines.{has}
 use Rattle.lines.specs.Formed.{Formed}
-use Rattle.lines.specs.Stored.{lineAt, linesFrom, putLine, length-put, put-same, put-other, length-lines, lines-same, push-line}
+use Rattle.branch_lines.specs.Stored.{lineAt, linesFrom, putLine, length-put, put-same, put-other, length-lines, lines-same, push-line}
 use Rattle.steps.specs.Steps.{stepsFrom}
 use Rattle.tableau.specs.declared.finding.Counts.{Counts}
 use Rattle.tableau.specs.declared.finding.WalkRefusal.{WalkRefusal}

@@ -1,5 +1,6 @@
 // Document 01's rules 1 to 7, of a has/lacks line P and the entry of its node, and rule 21 of such a
 // line.
+use branch_lines::load;
 use lines::line::HasLine;
 use lines::line::Line;
 use lines::line::channel_at;
@@ -8,7 +9,6 @@ use lines::line::edge_line;
 use lines::line::has_line;
 use lines::line::is_line;
 use lines::line::side_of;
-use lines::load;
 use lines::parts::is_negative;
 use lines::parts::is_positive;
 use lines::parts::opposed;
@@ -36,7 +36,7 @@ ghost use Rattle.pattern.specs.File.Table.{sameKind};
 ghost use Rattle.pattern.specs.File.Entries.{HasEntry};
 ghost use Rattle.lines.specs.declared.line.Line.{Line};
 ghost use Rattle.lines.specs.Parts.{positive, negative};
-ghost use Rattle.lines.specs.Stored.{lineAt};
+ghost use Rattle.branch_lines.specs.Stored.{lineAt};
 ghost use Rattle.rules.specs.declared.conclusion.Conclusion.{Conclusion};
 ghost use Rattle.rules.specs.Rules.{comparing, rule1, rule2, rule3, rule4, rule5, rule6, rule7, clashIf, opposedHas, rule21, ruleAt};
 

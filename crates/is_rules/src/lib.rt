@@ -2,12 +2,12 @@
 mod replaced;
 
 use crate::replaced::replaced;
+use branch_lines::load;
 use lines::line::IsLine;
 use lines::line::Line;
 use lines::line::compare_line;
 use lines::line::is_line;
 use lines::line::side_of;
-use lines::load;
 use lines::parts::is_negative;
 use lines::parts::is_positive;
 use lines::parts::opposed;
@@ -26,7 +26,7 @@ ghost use mathlib.Core.List.{List};
 ghost use Prim.Native.Nat.{ℕ, _+_, _*_, _≤_};
 ghost use lib.ListN.{length};
 ghost use Rattle.lines.specs.declared.line.Line.{Line};
-ghost use Rattle.lines.specs.Stored.{lineAt};
+ghost use Rattle.branch_lines.specs.Stored.{lineAt};
 ghost use Rattle.rules.specs.Rules.{rule17, rule18, rule19, clashIf, opposedIs, rule21, rule23, ruleAt};
 
 // 17. "P: i is j: j is i."

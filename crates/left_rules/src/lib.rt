@@ -1,11 +1,11 @@
 // Document 01's rules 9 to 15, of a comparison P and the entry e of its left path; i is its left name,
 // and "the rest is kept".
+use branch_lines::load;
 use lines::line::CompareLine;
 use lines::line::Line;
 use lines::line::edge_line;
 use lines::line::has_line;
 use lines::line::side_of;
-use lines::load;
 use lines::parts::at_end;
 use lines::parts::is_negative;
 use lines::parts::is_positive;
@@ -30,7 +30,7 @@ ghost use Rattle.lines.specs.declared.line.Line.{Line};
 ghost use Rattle.lines.specs.Lines.{has, leads, side};
 ghost use Rattle.lines.specs.Formed.{PathWithin};
 ghost use Rattle.lines.specs.Parts.{positive, negative, withLeft};
-ghost use Rattle.lines.specs.Stored.{lineAt};
+ghost use Rattle.branch_lines.specs.Stored.{lineAt};
 ghost use Rattle.rules.specs.Rules.{rule9, rule10, rule11, rule12, rule13, rule14, rule15, ruleAt};
 ghost use Rattle.rules.specs.Table.{NoneOf};
 ghost use Rattle.left_rules.specs.Listed.{wholeRules};

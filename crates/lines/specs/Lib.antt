@@ -1,9 +1,8 @@
--- In the order of reading. Lines and Parts say what lines are; the rest no promise needs: how the code sees and stores lines, and what
--- soundness says of them.
+-- In the order of reading. Lines and Parts say what lines are; the rest no promise needs: how the code sees lines, and what soundness says
+-- of them.
 pub mod Lines
 pub mod Parts
 pub mod Views
 pub mod Formed
 pub mod Truth
-pub mod Stored
 pub mod Naming

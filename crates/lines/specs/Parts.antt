@@ -74,3 +74,9 @@ channel-beyond zero a b c = absurd (a refl)
 channel-beyond (suc zero) a b c = absurd (b refl)
 channel-beyond (suc (suc zero)) a b c = absurd (c refl)
 channel-beyond (suc (suc (suc n))) a b c = refl
+
+pub channel-back : (e : Channel) → channelAt (channelNumber e) ≡ e
+channel-back Channel.C0 = refl
+channel-back Channel.C1 = refl
+channel-back Channel.C2 = refl
+channel-back Channel.C3 = refl

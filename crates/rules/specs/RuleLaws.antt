@@ -19,9 +19,8 @@ use Rattle.lines.specs.declared.views.IsView.{IsView}
 use Rattle.lines.specs.declared.views.EdgeView.{EdgeView}
 use Rattle.lines.specs.declared.views.CompareView.{CompareView}
 use Rattle.lines.specs.Lines.{name}
-use Rattle.lines.specs.Parts.{channelAt}
+use Rattle.lines.specs.Parts.{channelAt, channel-back}
 use Rattle.lines.specs.Views.{hasView, isView, edgeView, compareView}
-use Rattle.lines.specs.Stored.{channel-back}
 use Rattle.rules.specs.declared.conclusion.Conclusion.{Conclusion}
 use Rattle.rules.specs.declared.conclusion.Outcome.{Outcome}
 use Rattle.rules.specs.declared.fit.Arrival.{Arrival}

@@ -10,7 +10,7 @@ use Rattle.pattern.specs.Checks.Finding.{found}
 use Rattle.pattern.specs.File.Reading.{countOf, readingOf}
 use Rattle.steps.specs.declared.step.Step.{Step}
 use Rattle.lines.specs.Formed.{Formed}
-use Rattle.lines.specs.Stored.{lineAt, linesFrom, length-lines}
+use Rattle.branch_lines.specs.Stored.{lineAt, linesFrom, length-lines}
 use Rattle.steps.specs.Steps.{fieldFault, placed-on}
 use Rattle.steps.specs.Forms.{LineWithin, formed-within}
 

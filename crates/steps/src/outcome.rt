@@ -1,17 +1,17 @@
 // What the rule of a step gives: the families of rules, by the form of the line P. P is read as a line of
 // its form, and Q by the rules alone that use it.
+use branch_lines::form_at;
+use branch_lines::load;
+use branch_lines::load_compare;
+use branch_lines::load_has;
+use branch_lines::load_is;
 use compare_rules::rule8;
 use compare_rules::rule16;
 use compare_rules::rule20;
 use compare_rules::rule21;
 use compare_rules::rule22;
 use compare_rules::rule23;
-use lines::form_at;
 use lines::line::Form;
-use lines::load;
-use lines::load_compare;
-use lines::load_has;
-use lines::load_is;
 use rules::conclusion::Outcome;
 use rules::fit::clash_if;
 ghost use mathlib.Core.Path.{_≡_};
@@ -19,7 +19,7 @@ ghost use Prim.Native.Nat.{_+_, _*_, _≤_};
 ghost use lib.ListN.{length};
 ghost use Rattle.lines.specs.declared.line.Line.{Line};
 ghost use Rattle.lines.specs.Formed.{PathWithin};
-ghost use Rattle.lines.specs.Stored.{compareAt, lineAt};
+ghost use Rattle.branch_lines.specs.Stored.{compareAt, lineAt};
 ghost use Rattle.rules.specs.Rules.{ruleAt};
 ghost use Rattle.steps.specs.Forms.{LineWithin};
 

@@ -6,7 +6,7 @@ use crate::step::StepRefusal;
 use crate::table::is_known;
 use crate::table::uses_argument;
 use crate::table::uses_q;
-use lines::fresh::is_fresh;
+use branch_lines::is_fresh;
 use names::NameSet;
 use rules::conclusion::Conclusion;
 use rules::conclusion::Outcome;
@@ -19,7 +19,7 @@ ghost use lib.ListN.{length};
 ghost use Rattle.pattern.specs.Meaning.Names.{usesName};
 ghost use Rattle.names.specs.Set.{SetOf};
 ghost use Rattle.lines.specs.declared.line.Line.{Line};
-ghost use Rattle.lines.specs.Stored.{linesFrom};
+ghost use Rattle.branch_lines.specs.Stored.{linesFrom};
 ghost use Rattle.steps.specs.Steps.{lineFault, argumentFault, fieldFault, stepOutcome, isStale, stepping, answerOf};
 ghost use Rattle.steps.specs.AtStep.{AtStep, Readable};
 

@@ -3,7 +3,7 @@
 use borrow.Author.Needs.{needs}
 use mathlib.Core.Path.{_≡_, sym, ap, _∙_}
 use Rattle.steps.specs.declared.step.Step.{Step}
-use Rattle.lines.specs.Stored.{linesFrom}
+use Rattle.branch_lines.specs.Stored.{linesFrom}
 use Rattle.steps.specs.Steps.{stepAt, stepping, answerOf}
 use Rattle.branch_straight.specs.StraightLaws.{step-concludes, step-long, step-refused}
 use Rattle.branch_straight.proofs.take_step.Statement.{statement}

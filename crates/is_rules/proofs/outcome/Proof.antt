@@ -2,7 +2,7 @@
 -- Assumes nothing.
 use mathlib.Core.Path.{sym, _∙_}
 use Rattle.lines.specs.declared.line.Line.{Line}
-use Rattle.lines.specs.Stored.{lineAt}
+use Rattle.branch_lines.specs.Stored.{lineAt}
 use Rattle.rules.specs.Rules.{ruleAt}
 use Rattle.rules.specs.RuleLaws.{of-rule}
 use Rattle.is_rules.specs.Listed.{is-unfit}

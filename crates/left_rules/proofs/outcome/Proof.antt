@@ -4,7 +4,7 @@ use mathlib.Core.Path.{_≡_, sym, _∙_}
 use mathlib.Core.Bool.{false}
 use Rattle.lines.specs.declared.line.Line.{Line}
 use Rattle.lines.specs.Parts.{atEnd}
-use Rattle.lines.specs.Stored.{lineAt}
+use Rattle.branch_lines.specs.Stored.{lineAt}
 use Rattle.rules.specs.Rules.{rule9, rule10, rule11, rule12, rule13, rule14, rule15, ruleAt}
 use Rattle.rules.specs.RuleLaws.{of-rule}
 use Rattle.left_rules.specs.Listed.{entry-within, compare-unfit, end-unfit, fits-left}

@@ -6,7 +6,7 @@ use native.Mathlib.Omega.{arith}
 use mathlib.Core.List.{List}
 use lib.ListN.{length}
 use Rattle.lines.specs.declared.line.Line.{Line}
-use Rattle.lines.specs.Stored.{putLine}
+use Rattle.branch_lines.specs.Stored.{putLine}
 use Rattle.tableau.specs.Run.{maxWaiting}
 use Rattle.branch_end.specs.declared.BranchEnd.{BranchEnd}
 use Rattle.tableau.specs.declared.finding.Counts.{Counts}
@@ -25,7 +25,7 @@ use Rattle.branch_end.proofs.count_clash.Reads as count-clash-reads
 use Rattle.branch_end.proofs.count_fork.Reads as count-fork-reads
 use Rattle.branch_end.proofs.refusal_code.Reads as refusal-code-reads
 use Rattle.branch_straight.proofs.straight.Reads as straight-reads
-use Rattle.lines.proofs.store.Reads as store-reads
+use Rattle.branch_lines.proofs.store.Reads as store-reads
 use Rattle.names.proofs.NameSet.of_numbers.Reads as of-numbers-reads
 use Rattle.branch_walk.proofs.walk.+walk.{statement}
 use Rattle.branch_walk.proofs.walk.+walk.Tie.{close}

@@ -2,7 +2,7 @@
 -- Assumes nothing.
 use mathlib.Core.Path.{_∙_}
 use Rattle.lines.specs.declared.line.Line.{Line}
-use Rattle.lines.specs.Stored.{compareAt, lineAt}
+use Rattle.branch_lines.specs.Stored.{compareAt, lineAt}
 use Rattle.rules.specs.Rules.{ruleAt}
 use Rattle.rules.specs.RuleLaws.{of-rule}
 use borrow.Author.Needs.{needs}

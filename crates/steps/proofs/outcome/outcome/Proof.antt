@@ -2,7 +2,7 @@
 -- Assumes nothing.
 use mathlib.Core.Path.{_≡_, sym, _∙_}
 use Rattle.lines.specs.declared.line.Form.{Form}
-use Rattle.lines.specs.Stored.{lineOfForm, lineAt, line-of-form}
+use Rattle.branch_lines.specs.Stored.{lineOfForm, lineAt, line-of-form}
 use Rattle.steps.specs.Forms.{edge-unfit}
 use borrow.Author.Needs.{needs}
 use Rattle.steps.proofs.outcome.outcome.Statement.{statement}

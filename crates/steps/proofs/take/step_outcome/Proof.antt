@@ -1,7 +1,7 @@
 -- `steps::take::step_outcome` meets its contract: a step without fault has its lines on the branch.
 -- Assumes nothing.
 use mathlib.Core.Path.{sym, _∙_}
-use Rattle.lines.specs.Stored.{line-on}
+use Rattle.branch_lines.specs.Stored.{line-on}
 use Rattle.rules.specs.Rules.{ruleAt}
 use Rattle.steps.specs.AtStep.{step-on, room-for}
 use borrow.Author.Needs.{needs}

@@ -5,7 +5,7 @@ use mathlib.Core.Path.{_≡_, refl, sym, _∙_}
 use mathlib.Core.Bool.{Bool, false}
 use borrow.Author.Tests.{not-true, not-false}
 use Rattle.rules.specs.Rules.{ruleAt, isUnknown}
-use Rattle.lines.specs.Stored.{linesFrom, length-lines}
+use Rattle.branch_lines.specs.Stored.{linesFrom, length-lines}
 use Rattle.steps.specs.Steps.{fieldFault, isStale, stepping}
 use Rattle.steps.specs.AtStep.{readable}
 use borrow.Author.Needs.{needs}
