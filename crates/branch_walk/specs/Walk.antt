@@ -15,7 +15,7 @@ use Rattle.tableau.specs.declared.finding.Counts.{Counts}
 use Rattle.tableau.specs.declared.finding.Closed.{Closed}
 use Rattle.branch_end.specs.declared.BranchEnd.{BranchEnd}
 use Rattle.branch_end.specs.Ends.{countsOf, endOf}
-use Rattle.branch_straight.specs.Straight.{remaining, Leaves}
+use Rattle.branch_walk.specs.Straight.{remaining, Leaves}
 use Rattle.tableau.specs.Run.{run, none, maxLines}
 use Rattle.tableau.specs.Judging.{closedBy, walkNumber, walkPlace}
 

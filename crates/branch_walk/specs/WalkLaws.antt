@@ -25,15 +25,15 @@ use Rattle.branch_lines.specs.Stored.{lineAt, linesFrom, putLine, length-put, p
 use Rattle.steps.specs.Steps.{stepsFrom}
 use Rattle.tableau.specs.declared.finding.Counts.{Counts}
 use Rattle.tableau.specs.declared.finding.WalkRefusal.{WalkRefusal}
-use Rattle.branch_straight.specs.declared.Stop.{Stop}
+use Rattle.branch_step.specs.declared.Stop.{Stop}
 use Rattle.branch_end.specs.declared.BranchEnd.{BranchEnd}
 use Rattle.branch_end.specs.Ends.{countClash, countFork, finishedIf, finished}
 use Rattle.tableau.specs.Run.{run, maxWaiting, branches, counted, none}
 use Rattle.tableau.specs.RunCloses.{same-counts}
 use Rattle.tableau.specs.Judging.{maxSteps, areaNeed, closedBy, clears, areaAfter, walkNumber}
 use Rattle.rules.specs.Sides.{sides}
-use Rattle.branch_straight.specs.Straight.{WalkLent, remaining, Leaves, Onto, Stops}
-use Rattle.branch_straight.specs.StraightLaws.{steps-next, steps-none, run-goes-on, run-crowded, concludes-formed, lent-kept, lent-more}
+use Rattle.branch_walk.specs.Straight.{WalkLent, remaining, Leaves, Onto, Stops}
+use Rattle.branch_walk.specs.StraightLaws.{steps-next, steps-none, run-goes-on, run-crowded, concludes-formed, lent-kept, lent-more}
 use Rattle.branch_walk.specs.Walk.{Bounded, ClosedAt, WalkSays, Walks}
 
 -- ---- the counts

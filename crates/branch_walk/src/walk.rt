@@ -1,6 +1,7 @@
 // The walk over the branches of a tableau. Line k of the branch that is being checked stands in block k
 // of the area; at a fork nothing is copied, since the lines before it stay where they are and those of
 // a side that is closed are dead.
+use crate::straight::straight;
 use branch_end::FIRST_REFUSAL;
 use branch_end::count_clash;
 use branch_end::count_fork;
@@ -8,8 +9,7 @@ use branch_end::end_of;
 use branch_end::finish;
 use branch_end::refusal_code;
 use branch_lines::store;
-use branch_straight::Stop;
-use branch_straight::straight;
+use branch_step::Stop;
 use lines::line::HasLine;
 use lines::line::Line;
 use names::NameSet;
@@ -31,7 +31,7 @@ ghost use Rattle.names.specs.Set.{SetOf, namesOf};
 ghost use Rattle.tableau.specs.Run.{maxWaiting};
 ghost use Rattle.tableau.specs.Judging.{maxSteps, areaNeed, areaAfter, findingOf};
 ghost use Rattle.branch_end.specs.Ends.{countsOf};
-ghost use Rattle.branch_straight.specs.Straight.{WalkLent};
+ghost use Rattle.branch_walk.specs.Straight.{WalkLent};
 ghost use Rattle.branch_walk.specs.Walk.{Bounded, Walked, stepsFound};
 
 // Document 01's bound on the right sides that wait.

@@ -11,8 +11,8 @@ use Rattle.tableau.specs.Run.{maxWaiting}
 use Rattle.branch_end.specs.declared.BranchEnd.{BranchEnd}
 use Rattle.tableau.specs.declared.finding.Counts.{Counts}
 use Rattle.branch_end.specs.Ends.{countsOf, countFork, firstRefusal, endOf, end-closed, end-refused}
-use Rattle.branch_straight.specs.declared.Stop.{Stop}
-use Rattle.branch_straight.specs.Straight.{Stops}
+use Rattle.branch_step.specs.declared.Stop.{Stop}
+use Rattle.branch_walk.specs.Straight.{Stops}
 use Rattle.branch_walk.specs.Walk.{Walks}
 use Rattle.branch_walk.specs.WalkLaws.{walk-refused, walk-clash, walk-crowded, left-lent, right-lent, fork-bounded, walk-left-refused, walk-right}
 use Prim.Native.Nat.{ℕ, _+_, _-_, _<_}
@@ -24,7 +24,7 @@ use Rattle.branch_walk.proofs.walk.+walk.Lts-walk as walk-lts
 use Rattle.branch_end.proofs.count_clash.Reads as count-clash-reads
 use Rattle.branch_end.proofs.count_fork.Reads as count-fork-reads
 use Rattle.branch_end.proofs.refusal_code.Reads as refusal-code-reads
-use Rattle.branch_straight.proofs.straight.Reads as straight-reads
+use Rattle.branch_walk.proofs.straight.straight.Reads as straight-reads
 use Rattle.branch_lines.proofs.store.Reads as store-reads
 use Rattle.names.proofs.NameSet.of_numbers.Reads as of-numbers-reads
 use Rattle.branch_walk.proofs.walk.+walk.{statement}

@@ -24,12 +24,13 @@ use Rattle.soundness.specs.FormedRules.{EachFormed, FormedConclusion, step-form
 use Rattle.steps.specs.Steps.{stepAt, stepsFrom, stepping, answerOf, found-follows}
 use Rattle.tableau.specs.declared.finding.Counts.{Counts}
 use Rattle.tableau.specs.declared.finding.WalkRefusal.{WalkRefusal}
-use Rattle.branch_straight.specs.declared.Stop.{Stop}
-use Rattle.branch_straight.specs.declared.Advance.{Advance}
+use Rattle.branch_step.specs.declared.Stop.{Stop}
+use Rattle.branch_step.specs.declared.Advance.{Advance}
 use Rattle.tableau.specs.Run.{run, maxLines, maxWaiting, longest, further, limitsCheck, branches, counted, none}
 use Rattle.tableau.specs.RunCloses.{same-counts}
 use Rattle.rules.specs.Sides.{sides}
-use Rattle.branch_straight.specs.Straight.{putLines, pushed, advanceOf, WalkLent, remaining, Leaves, Onto, StepConcludes, StopSays, Stops, Advances}
+use Rattle.branch_step.specs.Step.{putLines, pushed, advanceOf}
+use Rattle.branch_walk.specs.Straight.{WalkLent, remaining, Leaves, Onto, StepConcludes, StopSays, Stops, Advances}
 
 -- ---- `run`, step by step
 

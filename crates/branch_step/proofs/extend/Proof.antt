@@ -1,9 +1,9 @@
--- `branch_straight::extend` meets its contract: in each arm the conclusion is known.
+-- `branch_step::extend` meets its contract: in each arm the conclusion is known.
 -- Assumes nothing.
 use borrow.Author.Needs.{needs}
 use mathlib.Core.Path.{refl}
-use Rattle.branch_straight.proofs.extend.Statement.{statement}
-use Rattle.branch_straight.proofs.extend.Tie as tie
+use Rattle.branch_step.proofs.extend.Statement.{statement}
+use Rattle.branch_step.proofs.extend.Tie as tie
 
 enum-known-c : tie.Need-enum-known-c
 enum-known-c c = search needs

@@ -1,11 +1,11 @@
--- `branch_straight::straight` meets its contract: the steps passed lead on from the first to the one that is next.
+-- `branch_walk::straight::straight` meets its contract: the steps passed lead on from the first to the one that is next.
 -- Assumes nothing.
 use borrow.Author.Needs.{needs}
 use Prim.Native.Nat.{_-_}
-use Rattle.branch_straight.specs.Straight.{Onto}
-use Rattle.branch_straight.specs.StraightLaws.{straight-grows, straight-stops, straight-open}
-use Rattle.branch_straight.proofs.straight.Statement.{statement}
-use Rattle.branch_straight.proofs.straight.Tie as tie
+use Rattle.branch_walk.specs.Straight.{Onto}
+use Rattle.branch_walk.specs.StraightLaws.{straight-grows, straight-stops, straight-open}
+use Rattle.branch_walk.proofs.straight.straight.Statement.{statement}
+use Rattle.branch_walk.proofs.straight.straight.Tie as tie
 
 abbrev Inv-loop : tie.InvT-loop
 Inv-loop p used steps s area₀ k len i₀ lines₀ area i lines = Onto p steps s area₀ k len area i lines

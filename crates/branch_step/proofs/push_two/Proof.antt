@@ -1,9 +1,9 @@
--- `branch_straight::push_two` meets its contract: the second line is stored behind the first.
+-- `branch_step::push_two` meets its contract: the second line is stored behind the first.
 -- Assumes nothing.
 use borrow.Author.Needs.{needs}
 use mathlib.Core.Path.{refl, _∙_}
-use Rattle.branch_straight.proofs.push_two.Statement.{statement}
-use Rattle.branch_straight.proofs.push_two.Tie as tie
+use Rattle.branch_step.proofs.push_two.Statement.{statement}
+use Rattle.branch_step.proofs.push_two.Tie as tie
 
 store-requires : tie.Need-store-requires
 store-requires c κs = search needs

@@ -1,13 +1,13 @@
--- `branch_straight::take_step` meets its contract, by the law for each way out.
+-- `branch_walk::straight::take_step` meets its contract, by the law for each way out.
 -- Assumes nothing.
 use borrow.Author.Needs.{needs}
 use mathlib.Core.Path.{_≡_, sym, ap, _∙_}
 use Rattle.steps.specs.declared.step.Step.{Step}
 use Rattle.branch_lines.specs.Stored.{linesFrom}
 use Rattle.steps.specs.Steps.{stepAt, stepping, answerOf}
-use Rattle.branch_straight.specs.StraightLaws.{step-concludes, step-long, step-refused}
-use Rattle.branch_straight.proofs.take_step.Statement.{statement}
-use Rattle.branch_straight.proofs.take_step.Tie as tie
+use Rattle.branch_walk.specs.StraightLaws.{step-concludes, step-long, step-refused}
+use Rattle.branch_walk.proofs.straight.take_step.Statement.{statement}
+use Rattle.branch_walk.proofs.straight.take_step.Tie as tie
 
 at-requires : tie.Need-at-requires
 at-requires c κs = search needs

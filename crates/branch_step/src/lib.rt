@@ -1,27 +1,18 @@
-// The straight part of a branch: the steps that add lines to it, up to the clash, fork or refusal that
-// ends them. Line k of the branch stands in block k of the area.
+// What a conclusion does to a branch: lines are added to it, or its straight part ends there. Line k of
+// the branch stands in block k of the area.
 use branch_lines::store;
 use lines::line::Line;
-use names::NameSet;
 use rules::conclusion::Conclusion;
-use steps::step::Step;
-use steps::step::StepAnswer;
-use steps::take::take;
 use tableau::finding::WalkRefusal;
 ghost use mathlib.Core.Path.{_≡_};
-ghost use Prim.Native.Nat.{_+_, _≤_, _<_};
+ghost use Prim.Native.Nat.{_+_, _≤_};
 ghost use lib.ListN.{length};
-ghost use Rattle.pattern.specs.Meaning.Names.{usesName};
-ghost use Rattle.names.specs.Set.{SetOf};
-ghost use Rattle.branch_lines.specs.Stored.{putLine};
 ghost use Rattle.rules.specs.Sides.{sides};
+ghost use Rattle.branch_lines.specs.Stored.{putLine};
 ghost use Rattle.tableau.specs.Run.{longest, maxLines};
 ghost use Rattle.tableau.specs.Judging.{areaNeed};
-ghost use Rattle.branch_straight.specs.declared.Advance.{Advance};
-ghost use Rattle.branch_straight.specs.Straight.{WalkLent, advanceOf, pushed, Advances, Stops};
-
-// Document 01's bound on the lines of a branch.
-const MAX_LINES: u16 = 1024;
+ghost use Rattle.branch_step.specs.declared.Advance.{Advance};
+ghost use Rattle.branch_step.specs.Step.{advanceOf, pushed};
 
 // Where the straight part of a branch ends: at a clash or a fork, with the number of that step and of
 // the lines that the branch has at it, and of a fork the line of each side; or at a refusal.
@@ -38,7 +29,7 @@ pub enum Advance {
 }
 
 // The number of lines that a conclusion adds to a branch, or to each side.
-fn added_by(c: Conclusion) -> u16
+pub fn added_by(c: Conclusion) -> u16
     ensures { λ r. ⌜ (r ≡ longest (sides c)) × (r ≤ 2) ⌝ }
 {
     match c {
@@ -75,7 +66,7 @@ fn push_two(area: &mut [u8], len: u16, l: Line, m: Line) -> Advance
 }
 
 // Adds the lines of step k's conclusion to a branch of so many lines.
-fn extend(area: &mut [u8], c: Conclusion, k: u16, len: u16) -> Advance
+pub fn extend(area: &mut [u8], c: Conclusion, k: u16, len: u16) -> Advance
     requires { ⌜ length (now area) ≡ areaNeed ⌝ }
     requires { ⌜ len + longest (sides c) ≤ maxLines ⌝ }
     ensures advance { λ r. ⌜ r ≡ advanceOf k len c ⌝ }
@@ -88,65 +79,4 @@ fn extend(area: &mut [u8], c: Conclusion, k: u16, len: u16) -> Advance
         Conclusion::Fork(l, r) => Advance::Stopped(Stop::Fork(k, len, l, r)),
         Conclusion::Clash => Advance::Stopped(Stop::Clash(k, len)),
     }
-}
-
-// Checks step k on a branch of so many lines, and adds its lines.
-fn take_step(
-    p: &[u8],
-    used: NameSet,
-    steps: &[u8],
-    s: u16,
-    area: &mut [u8],
-    k: u16,
-    len: u16,
-) -> Advance
-    requires { ⌜ WalkLent (now p) (now steps) s (now area) k len ⌝ }
-    requires { ⌜ SetOf (usesName (now p)) used ⌝ }
-    requires { ⌜ k < s ⌝ }
-    ensures { λ r. ⌜ Advances (now (p .entry)) (now (steps .entry)) s (now (area .entry)) k len r (now (area .exit)) ⌝ }
-{
-    let step = Step::at(steps, k as usize);
-    let answer = take(p, used, area, len as usize, step, k);
-    match answer {
-        StepAnswer::Refused(refusal) => {
-            Advance::Stopped(Stop::Refused(WalkRefusal::Step(refusal)))
-        }
-        StepAnswer::Concluded(c) => {
-            if MAX_LINES < len + added_by(c) {
-                return Advance::Stopped(Stop::Refused(WalkRefusal::Lines(k)));
-            }
-            extend(area, c, k, len)
-        }
-    }
-}
-
-// Checks the steps from step k on that add lines to a branch of so many lines, up to the clash or fork
-// or refusal that ends them.
-pub fn straight(
-    p: &[u8],
-    used: NameSet,
-    steps: &[u8],
-    s: u16,
-    area: &mut [u8],
-    k: u16,
-    len: u16,
-) -> Stop
-    requires { ⌜ WalkLent (now p) (now steps) s (now area) k len ⌝ }
-    requires { ⌜ SetOf (usesName (now p)) used ⌝ }
-    ensures { λ r. ⌜ Stops (now (p .entry)) (now (steps .entry)) s (now (area .entry)) k len r (now (area .exit)) ⌝ }
-{
-    let mut i = k;
-    let mut lines = len;
-    while i < s {
-        match take_step(p, used, steps, s, area, i, lines) {
-            Advance::Stopped(stop) => {
-                return stop;
-            }
-            Advance::Grown(more) => {
-                lines = more;
-            }
-        }
-        i += 1;
-    }
-    Stop::Refused(WalkRefusal::StillOpen(s))
 }
