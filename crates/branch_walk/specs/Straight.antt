@@ -17,8 +17,6 @@ use Rattle.branch_step.specs.declared.Advance.{Advance}
 use Rattle.tableau.specs.Run.{run, maxLines}
 use Rattle.tableau.specs.Judging.{maxSteps, areaNeed, walkNumber, walkPlace}
 
--- ---- the walk
-
 -- What the walk is lent: a pattern, the bytes of s steps of which the next is step k, and an area with a branch of len lines.
 pub record WalkLent (bs ss : List ℕ) (s : ℕ) (xs : List ℕ) (k len : ℕ) : Type 0 where
   pub standing : AtStep bs xs len
