@@ -6,6 +6,7 @@ mod faults;
 use faults::fresh::{RIGHT, SEARCHES, SETS};
 use faults::model::{MISREADINGS, misread};
 use faults::names::{MISTAKES, mistaken, names_before_edges};
+use faults::slots::{COMPARINGS, compared};
 use faults::tableau::{self, Fault, NONE};
 use oracle::finding::Finding;
 use oracle::model::check_names;
@@ -118,11 +119,22 @@ fn everything_occurs_and_what_never_does_is_named() {
         missing(|tally| assert!(tally.limits.remove("name by itself refused 22").is_some())),
         ["fresh names: name by itself refused 22"]
     );
+    assert_eq!(
+        missing(|tally| assert!(tally.limits.remove("entries that share a slot read").is_some())),
+        ["slots: entries that share a slot read"]
+    );
     assert_eq!(missing(|tally| assert!(tally.names[1].remove(&0))), ["name 0 refused 18"]);
     assert_eq!(missing(|tally| assert!(tally.names[2].remove(&64))), ["name 64 of the branch refused 22"]);
     assert_eq!(missing(|tally| assert!(tally.names[3].remove(&127))), ["name 127 of the pattern refused 22"]);
     assert_eq!(missing(|tally| tally.kinds[Kind::Unrelated as usize] = 0).len(), 1);
     assert!(Tally::default().missing().len() > 300);
+}
+
+#[test]
+fn a_reader_that_compares_an_entry_with_others_than_all_earlier_ones_is_seen() {
+    for (words, repeats) in COMPARINGS {
+        is_seen_among(words, &|operation, lent| compared(repeats, operation, lent));
+    }
 }
 
 #[test]

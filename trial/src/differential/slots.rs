@@ -25,8 +25,8 @@ impl Judged<'_> {
 
     /// Whether a pattern was read in which a slot has several entries.
     fn read_of_shared_slots(&self) -> bool {
-        let slots: BTreeSet<u64> = self.entries().iter().copied().map(slot).collect();
-        matches!(self.finding, Finding::Read { .. }) && slots.len() < self.entries().len()
+        let slots = || self.entries().iter().copied().map(slot).collect::<BTreeSet<u64>>();
+        matches!(self.finding, Finding::Read { .. }) && slots().len() < self.entries().len()
     }
 
     /// Of the entries before the one that was refused 7, those of its slot: whether each is equal to it.

@@ -3,4 +3,5 @@
 pub mod fresh;
 pub mod model;
 pub mod names;
+pub mod slots;
 pub mod tableau;
