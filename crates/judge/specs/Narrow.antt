@@ -19,6 +19,7 @@ use Rattle.pattern.specs.File.Valid as pattern
 use Rattle.nodeset.specs.Below.{countBelow, lowest-le}
 use Rattle.decision.specs.Judged.{Judged, met, unmet, judgedIf, judgedBy}
 use Rattle.model_file.specs.Layout.{nodeCount, nameCount, edgeCount}
+use Rattle.model_file.specs.Order.{Order}
 use Rattle.model_file.specs.Checks as file
 use Rattle.model_file.specs.Valid as file-valid
 use Rattle.model.specs.Judging as model
@@ -151,20 +152,21 @@ module _ (ds : List ℕ) where
   unfolding file.nameCheck
   name-narrow j l = search (fault-narrow, lit<)
 
-  edge-narrow : (i : ℕ) → Narrow i → NarrowCheck (file.edgeCheck ds i)
-  unfolding file.edgeCheck
-  edge-narrow i l = search (fault-narrow, lit<)
+  -- the place of 14 and of 28 is the number of an edge record
+  edge-narrow : (order : Order) (i : ℕ) → Narrow i → NarrowCheck (file.recordCheck order ds i)
+  unfolding file.recordCheck file.edgeCheck file.orderCheck
+  edge-narrow order i l = search (fault-then, fault-narrow, lit<)
 
-  records-narrow : file-valid.ValidHeader ds
-      → NarrowCheck (eachBelow (nameCount ds) (file.nameCheck ds) then eachBelow (edgeCount ds) (file.edgeCheck ds))
-  records-narrow h =
-      then-narrow (eachBelow (nameCount ds) (file.nameCheck ds)) (eachBelow (edgeCount ds) (file.edgeCheck ds))
+  records-narrow : (order : Order) → file-valid.ValidHeader ds
+      → NarrowCheck (eachBelow (nameCount ds) (file.nameCheck ds) then eachBelow (edgeCount ds) (file.recordCheck order ds))
+  records-narrow order h =
+      then-narrow (eachBelow (nameCount ds) (file.nameCheck ds)) (eachBelow (edgeCount ds) (file.recordCheck order ds))
       (each-narrow (nameCount ds) (file.nameCheck ds) (omega (arith, h .names-few)) name-narrow)
-      (λ e. each-narrow (edgeCount ds) (file.edgeCheck ds) (omega (arith, h .edges-few)) edge-narrow)
+      (λ e. each-narrow (edgeCount ds) (file.recordCheck order ds) (omega (arith, h .edges-few)) (edge-narrow order))
 
-  model-narrow : NarrowCheck (file.modelCheck ds)
+  model-narrow : (order : Order) → NarrowCheck (file.modelCheck order ds)
   unfolding file.modelCheck
-  model-narrow = then-narrow (file.headerCheck ds) _ model-header-narrow (λ e. records-narrow (file-valid.header-passes ds e))
+  model-narrow order = then-narrow (file.headerCheck ds) _ model-header-narrow (λ e. records-narrow order (file-valid.header-passes ds e))
 
 -- the place of 27 is the number of a name
 names-narrow : (bs ds : List ℕ) → NarrowCheck (model.namesCheck bs ds)
@@ -173,13 +175,13 @@ names-narrow bs ds =
     fault-narrow (someBelow (maxName + 1) (model.isMissing bs ds)) 27 _ (lit< tt)
     (lt-of-le-of-lt (lowest-le (maxName + 1) (model.isMissing bs ds)) (lit< tt))
 
-pub model-judging-narrow : (bs ds : List ℕ) (size : ℕ) → NarrowFinding NarrowJudged (model.judgingOf bs ds size)
-unfolding model.judgingOf model.judgingCheck
-model-judging-narrow bs ds size =
-    unless-narrow NarrowJudged (model.judgingCheck bs ds size) _
-    (begins-narrow bs (ltb size (model.areaNeed bs)) (file.modelCheck ds then model.namesCheck bs ds)
-    (then-narrow (file.modelCheck ds) (model.namesCheck bs ds) (model-narrow ds) (λ e. names-narrow bs ds)))
-    (λ e. judged-narrow (nodeCount ds) _ (omega (arith, model.checks-pass bs ds size .0 e .2 .header .narrow)))
+pub model-judging-narrow : (order : Order) (bs ds : List ℕ) (size : ℕ) → NarrowFinding NarrowJudged (model.judgingBy order bs ds size)
+unfolding model.judgingBy model.judgingCheck
+model-judging-narrow order bs ds size =
+    unless-narrow NarrowJudged (model.judgingCheck order bs ds size) _
+    (begins-narrow bs (ltb size (model.areaNeed bs)) (file.modelCheck order ds then model.namesCheck bs ds)
+    (then-narrow (file.modelCheck order ds) (model.namesCheck bs ds) (model-narrow ds order) (λ e. names-narrow bs ds)))
+    (λ e. judged-narrow (nodeCount ds) _ (omega (arith, model.checks-pass order bs ds size .0 e .2 .header .narrow)))
 
 -- ---- judging a tableau
 

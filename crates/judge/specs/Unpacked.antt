@@ -11,6 +11,7 @@ use Rattle.wire.specs.Choice.{pick}
 use Rattle.pattern.specs.Checks.Finding.{Finding, found, refused}
 use Rattle.pattern.specs.File.Reading.{readingOf}
 use Rattle.decision.specs.Judged.{Judged, met, unmet}
+use Rattle.model_file.specs.Order.{rising}
 use Rattle.model.specs.Judging as model
 use Rattle.tableau.specs.declared.finding.Closed.{Closed}
 use Rattle.tableau.specs.Judging as tableau
@@ -136,7 +137,7 @@ pub model-told : (bs ds lent left : List ℕ) (f : Finding Judged) (answer : ℕ
     × ((unpackModel answer ≡ told (model.judgingOf bs ds (length lent)))
     × (((g : Finding Judged) → unpackModel answer ≡ told g → ModelPromise bs ds lent g left) × (answerKind answer ≡ metKind → NeverClosed bs)))
 model-told bs ds lent left f answer h e =
-    let tells = ap unpackModel e ∙ model-unpacked f (subst (NarrowFinding NarrowJudged) (sym (h .finding)) (model-judging-narrow bs ds (length lent))) in (
+    let tells = ap unpackModel e ∙ model-unpacked f (subst (NarrowFinding NarrowJudged) (sym (h .finding)) (model-judging-narrow rising bs ds (length lent))) in (
       e ∙ ap modelAnswer (h .finding),
       (
         tells ∙ ap told (h .finding),

@@ -1,4 +1,4 @@
--- Judging a model, 01's "Findings" and 02's Job 1: the refusals in their order, the finding, what becomes of the working area, and what a
+-- Judging a model, 01's "Findings" and 02's Jobs 1 and 3: the refusals in their order, the finding, what becomes of the working area, and what a
 -- finding says.
 -- Assumes nothing.
 use mathlib.Core.Path.{_≡_, refl, sym, _∙_, ap, subst}
@@ -27,8 +27,9 @@ use Rattle.model_file.specs.Checks as file
 use Rattle.model_file.specs.Layout.{nodeCount}
 use Rattle.decision.specs.Root.{rootHolds, renamed, judged-renamed}
 use Rattle.model_file.specs.Contents.{isListed, nodeNamed, modelFrom}
+use Rattle.model_file.specs.Order.{Order, any, rising, EdgesRise, Ordered}
 use Rattle.model_file.specs.Checks.{modelCheck}
-use Rattle.model_file.specs.Valid.{ValidModel, model-valid, model-accepted, all-named}
+use Rattle.model_file.specs.Valid.{ValidModel, model-valid, model-accepted, model-unordered, all-named}
 use Rattle.model.specs.declared.judge.JudgeRefusal.{JudgeRefusal}
 use Rattle.model.specs.declared.judge.JudgeCheck.{JudgeCheck}
 use Rattle.model.specs.declared.judge.ModelFinding.{ModelFinding}
@@ -49,13 +50,18 @@ isMissing bs ds i = usesName bs i && not (isListed ds i)
 unfoldable pub namesCheck : List ℕ → List ℕ → Check
 namesCheck bs ds = refusesIf (someBelow (maxName + 1) (isMissing bs ds)) 27 (lowestBelow (maxName + 1) (isMissing bs ds))
 
--- "Refused 1 to 8 as above. 9: .. 10: .." and on to 14, and then 27, for a working area of this many bytes
-unfoldable pub judgingCheck : List ℕ → List ℕ → ℕ → Check
-judgingCheck bs ds size = patternCheck bs then areaCheck bs size then modelCheck ds then namesCheck bs ds
+-- "Refused 1 to 8 as above. 9: .. 10: .." and on to 14, with 28 of Job 3 behind each 14 where edges must rise, and then 27 ("27 follows all
+-- edge records."), for files whose edges stand in that order and a working area of this many bytes
+unfoldable pub judgingCheck : Order → List ℕ → List ℕ → ℕ → Check
+judgingCheck order bs ds size = patternCheck bs then areaCheck bs size then modelCheck order ds then namesCheck bs ds
 
 -- "Judging a model gives met (lowest node, number of nodes) or unmet": of the root, in the data model that the file denotes
-unfoldable pub judgingOf : List ℕ → List ℕ → ℕ → Finding Judged
-judgingOf bs ds size = unless (judgingCheck bs ds size) (judgedOf (modelFrom ds) (rootOf bs))
+unfoldable pub judgingBy : Order → List ℕ → List ℕ → ℕ → Finding Judged
+judgingBy order bs ds size = unless (judgingCheck order bs ds size) (judgedOf (modelFrom ds) (rootOf bs))
+
+-- 02, Job 3: "Edges must rise strictly"
+abbrev pub judgingOf : List ℕ → List ℕ → ℕ → Finding Judged
+judgingOf = judgingBy rising
 
 -- "A refusal leaves the area unchanged; a finding leaves its first 2,040 bytes zero and the rest unchanged."
 abbrev pub areaAfter : List ℕ → Finding Judged → List ℕ → List ℕ
@@ -72,6 +78,7 @@ pub record Judgement (bs ds : List ℕ) (size : ℕ) (j : Judged) : Type 0 where
   pub pattern-valid : Valid bs (countOf bs)
   pub area-long : areaNeed bs ≤ size
   pub model-valid : ValidModel ds
+  pub edges-rise : EdgesRise ds
   pub names-listed : NamesListed bs ds
   -- `all-named` is the proof that every name has a node; nothing depends on which proof it is
   pub says : Says (modelFrom ds) (all-named model-valid) (rootOf bs) j
@@ -137,67 +144,76 @@ lowest-passes bs ds l = rw (none-below (isMissing bs ds) (maxName + 1) (λ i h. 
 
 -- ---- what is found
 
-module _ (bs ds : List ℕ) (size : ℕ) (ok : patternCheck bs ≡ passes) (long : areaNeed bs ≤ size) where
-  -- "after every 14 check": what a model file is refused for is found whatever names it lists
-  pub file-decides : (number place : ℕ) → modelCheck ds ≡ refuses number place → judgingCheck bs ds size ≡ refuses number place
+module _ (order : Order) (bs ds : List ℕ) (size : ℕ) (ok : patternCheck bs ≡ passes) (long : areaNeed bs ≤ size) where
+  -- "27 follows all edge records.": what a model file is refused for is found whatever names it lists
+  pub file-decides : (number place : ℕ) → modelCheck order ds ≡ refuses number place → judgingCheck order bs ds size ≡ refuses number place
   unfolding judgingCheck
   file-decides number place h = rw (ok, le-ltb size (areaNeed bs) long, h)
 
   -- and of one that isn't, the names decide
-  pub names-decide : modelCheck ds ≡ passes → judgingCheck bs ds size ≡ namesCheck bs ds
+  pub names-decide : modelCheck order ds ≡ passes → judgingCheck order bs ds size ≡ namesCheck bs ds
   unfolding judgingCheck
   names-decide h = rw (ok, le-ltb size (areaNeed bs) long, h)
 
--- the checks pass exactly where nothing is to be refused
-pub checks-pass : (bs ds : List ℕ) (size : ℕ)
-    → (judgingCheck bs ds size ≡ passes) ↔ (Valid bs (countOf bs) × (areaNeed bs ≤ size) × ValidModel ds × NamesListed bs ds)
-unfolding judgingCheck
-checks-pass bs ds size = (apart, together)
-  where
-    apart : judgingCheck bs ds size ≡ passes → Valid bs (countOf bs) × (areaNeed bs ≤ size) × ValidModel ds × NamesListed bs ds
-    apart h =
-        let a = then-passes (patternCheck bs) (areaCheck bs size then modelCheck ds then namesCheck bs ds) h in
-        let b = then-passes (areaCheck bs size) (modelCheck ds then namesCheck bs ds) (a .1) in
-        let c = then-passes (modelCheck ds) (namesCheck bs ds) (b .1) in
-        let ok = passes-valid bs (a .0) in
-        (ok, ltb-false size (areaNeed bs) (refusesIf-passes _ 9 0 (b .0)), model-valid ds (c .0), names-pass bs ds ok (c .1))
+-- nothing is to be refused
+abbrev pub Allowed : Order → List ℕ → List ℕ → ℕ → Type 0
+Allowed order bs ds size = Valid bs (countOf bs) × (areaNeed bs ≤ size) × ValidModel ds × Ordered order ds × NamesListed bs ds
 
-    together : Valid bs (countOf bs) × (areaNeed bs ≤ size) × ValidModel ds × NamesListed bs ds → judgingCheck bs ds size ≡ passes
+-- the checks pass exactly there
+pub checks-pass : (order : Order) (bs ds : List ℕ) (size : ℕ) → (judgingCheck order bs ds size ≡ passes) ↔ Allowed order bs ds size
+unfolding judgingCheck
+checks-pass order bs ds size = (apart, together)
+  where
+    apart : judgingCheck order bs ds size ≡ passes → Allowed order bs ds size
+    apart h =
+        let a = then-passes (patternCheck bs) (areaCheck bs size then modelCheck order ds then namesCheck bs ds) h in
+        let b = then-passes (areaCheck bs size) (modelCheck order ds then namesCheck bs ds) (a .1) in
+        let c = then-passes (modelCheck order ds) (namesCheck bs ds) (b .1) in
+        let ok = passes-valid bs (a .0) in
+        let file = model-valid order ds (c .0) in
+        (ok, ltb-false size (areaNeed bs) (refusesIf-passes _ 9 0 (b .0)), file .0, file .1, names-pass bs ds ok (c .1))
+
+    together : Allowed order bs ds size → judgingCheck order bs ds size ≡ passes
     together h =
-        names-decide bs ds size (valid-passes bs (countOf bs) (h .0)) (h .1) (model-accepted ds (h .2)) ∙ names-accepted bs ds (h .3)
+        names-decide order bs ds size (valid-passes bs (countOf bs) (h .0)) (h .1) (model-accepted order ds (h .2) (h .3))
+        ∙ names-accepted bs ds (h .4)
 
 -- Demand 2 for models: judging finds j exactly where j is so.
 pub judging-says : (bs ds : List ℕ) (size : ℕ) (j : Judged) → (judgingOf bs ds size ≡ found j) ↔ Judgement bs ds size j
-unfolding judgingOf
+unfolding judgingBy
 judging-says bs ds size j = (apart, together)
   where
     apart : judgingOf bs ds size ≡ found j → Judgement bs ds size j
     apart h =
-        let r = found-passes (judgingCheck bs ds size) (judgedOf (modelFrom ds) (rootOf bs)) j h in
-        let c = checks-pass bs ds size .0 (r .0) in
+        let r = found-passes (judgingCheck rising bs ds size) (judgedOf (modelFrom ds) (rootOf bs)) j h in
+        let c = checks-pass rising bs ds size .0 (r .0) in
         record {
           pattern-valid = c .0;
           area-long = c .1;
           model-valid = c .2;
-          names-listed = c .3;
+          edges-rise = c .3;
+          names-listed = c .4;
           says = judged-says (modelFrom ds) (all-named (c .2)) (rootOf bs) j .0 (r .1);
         }
 
     together : Judgement bs ds size j → judgingOf bs ds size ≡ found j
     together h =
-        rw (checks-pass bs ds size .1 (h .pattern-valid, h .area-long, h .model-valid, h .names-listed))
+        rw (checks-pass rising bs ds size .1 (h .pattern-valid, h .area-long, h .model-valid, h .edges-rise, h .names-listed))
         (ap found (judged-says (modelFrom ds) (all-named (h .model-valid)) (rootOf bs) j .1 (h .says)))
 
--- what judging found before 02's Job 1, without its check
-abbrev pub judgingBefore : List ℕ → List ℕ → ℕ → Finding Judged
-judgingBefore bs ds size = unless (patternCheck bs then areaCheck bs size then modelCheck ds) (judgedOf (modelFrom ds) (rootOf bs))
+-- ---- what 02's jobs left as it was
 
--- a model that lists the names of the pattern is judged as before
-pub listed-as-before : (bs ds : List ℕ) (size : ℕ) → NamesListed bs ds → judgingOf bs ds size ≡ judgingBefore bs ds size
-unfolding judgingOf judgingCheck
-listed-as-before bs ds size h =
+-- what judging finds without 02's Job 1, whose check is the last
+abbrev pub judgingUnlisted : Order → List ℕ → List ℕ → ℕ → Finding Judged
+judgingUnlisted order bs ds size = unless (patternCheck bs then areaCheck bs size then modelCheck order ds) (judgedOf (modelFrom ds) (rootOf bs))
+
+-- a model that lists the names of the pattern is judged so
+pub listed-as-before : (order : Order) (bs ds : List ℕ) (size : ℕ) → NamesListed bs ds
+    → judgingBy order bs ds size ≡ judgingUnlisted order bs ds size
+unfolding judgingBy judgingCheck
+listed-as-before order bs ds size h =
     rw (names-accepted bs ds h)
-    (ap (λ (c : Check). unless c (judgedOf (modelFrom ds) (rootOf bs))) (last-passes (patternCheck bs) (areaCheck bs size) (modelCheck ds)))
+    (ap (λ (c : Check). unless c (judgedOf (modelFrom ds) (rootOf bs))) (last-passes (patternCheck bs) (areaCheck bs size) (modelCheck order ds)))
   where
     last-passes : (a b c : Check) → a then b then c then passes ≡ a then b then c
     last-passes (refuses number place) b c = refl
@@ -206,8 +222,14 @@ listed-as-before bs ds size h =
     last-passes passes passes passes = refl
 
 -- "Readings without names keep their findings.": so is any model, for a pattern that uses no name
-pub nameless-as-before : (bs ds : List ℕ) (size : ℕ) → ((i : ℕ) → usesName bs i ≡ false) → judgingOf bs ds size ≡ judgingBefore bs ds size
-nameless-as-before bs ds size none = listed-as-before bs ds size (λ i used. absurd (false≢true (sym (none i) ∙ used)))
+pub nameless-as-before : (order : Order) (bs ds : List ℕ) (size : ℕ) → ((i : ℕ) → usesName bs i ≡ false)
+    → judgingBy order bs ds size ≡ judgingUnlisted order bs ds size
+nameless-as-before order bs ds size none = listed-as-before order bs ds size (λ i used. absurd (false≢true (sym (none i) ∙ used)))
+
+-- a model whose edges rise, as G's do, is judged as without 02's Job 3, refusals included
+pub rising-as-before : (bs ds : List ℕ) (size : ℕ) → EdgesRise ds → judgingOf bs ds size ≡ judgingBy any bs ds size
+unfolding judgingBy judgingCheck
+rising-as-before bs ds size h = rw (model-unordered ds h)
 
 -- "node 0 stands in only for names that the pattern doesn't use": whatever nodes they named instead, the finding would be the same
 pub stand-in-unseen : (bs ds : List ℕ) (size : ℕ) (j : Judged) → judgingOf bs ds size ≡ found j
@@ -228,14 +250,14 @@ root-judged bs {ds} ok s same =
     (λ k l. same k ∙ rw (le-ltb k (nodeCount ds) l))
 
 -- what is found where the checks pass, and where they don't
-pub judging-finds : (bs ds : List ℕ) (size : ℕ) → judgingCheck bs ds size ≡ passes
+pub judging-finds : (bs ds : List ℕ) (size : ℕ) → judgingCheck rising bs ds size ≡ passes
     → judgingOf bs ds size ≡ found (judgedOf (modelFrom ds) (rootOf bs))
-unfolding judgingOf
+unfolding judgingBy
 judging-finds bs ds size h = rw h
 
-pub judging-refuses : (bs ds : List ℕ) (size number place : ℕ) → judgingCheck bs ds size ≡ refuses number place
+pub judging-refuses : (bs ds : List ℕ) (size number place : ℕ) → judgingCheck rising bs ds size ≡ refuses number place
     → judgingOf bs ds size ≡ refused number place
-unfolding judgingOf
+unfolding judgingBy
 judging-refuses bs ds size number place h = rw h
 
 -- a finding that judging gives says what it says

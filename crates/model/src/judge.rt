@@ -1,5 +1,5 @@
-// Judging a model: the refusals of document 01 in its order, document 02's 27 behind them, and then
-// met, with the lowest node and the number of nodes, or unmet.
+// Judging a model: the refusals of document 01 in its order, among them document 02's 28 and behind
+// them its 27, and then met, with the lowest node and the number of nodes, or unmet.
 use model_file::ModelCheck;
 use model_file::ModelRefusal;
 use model_file::check;
@@ -18,11 +18,12 @@ ghost use Rattle.nodeset.specs.Set.{width, has};
 ghost use Rattle.pattern.specs.Checks.Finding.{found};
 ghost use Rattle.pattern.specs.File.Reading.{readingOf};
 ghost use Rattle.decision.specs.Judged.{judgedBy};
+ghost use Rattle.model_file.specs.Order.{rising};
 ghost use Rattle.model_file.specs.Valid.{ValidModel};
 ghost use Rattle.model.specs.Judging.{namesCheck, judgingCheck, judgingOf, areaAfter, refusalNumber, refusalPlace, checkOf, findingOf};
 
 // The refusals of judging a model: document 01's 1 to 8 of the pattern, 9 of the working area and 10 to
-// 14 of the model file, and document 02's 27, which holds the name that isn't listed.
+// 14 of the model file, with document 02's 28, and its 27, which holds the name that isn't listed.
 pub enum JudgeRefusal {
     Pattern(PatternRefusal),
     Area,
@@ -89,7 +90,7 @@ fn check_listed(p: &[u8], n: u8, d: &[u8]) -> JudgeCheck
 
 // All refusals, in their order, for a working area of this many bytes.
 fn check_all(p: &[u8], d: &[u8], size: usize) -> JudgeCheck
-    ensures { λ r. ⌜ checkOf r ≡ judgingCheck (now (p .entry)) (now (d .entry)) size ⌝ }
+    ensures { λ r. ⌜ checkOf r ≡ judgingCheck rising (now (p .entry)) (now (d .entry)) size ⌝ }
 {
     let n = match read(p) {
         PatternRead::Refused(refusal) => {

@@ -1,4 +1,4 @@
--- The checks of a model file: 01's refusals 10 to 14, in its order, as an executable definition.
+-- The checks of a model file: 01's refusals 10 to 14 and 02's 28, in their order, as an executable definition.
 -- Assumes nothing.
 use mathlib.Core.Bool.{Bool, not, _||_}
 use mathlib.Core.List.{List}
@@ -9,9 +9,10 @@ use Rattle.wire.specs.Fields.{beginsWith, wordAt}
 use Rattle.pattern.specs.File.Types.{maxName, maxAxis}
 use Rattle.pattern.specs.Checks.Finding.{Check, passes, refuses, refusesIf, _then_}
 use Rattle.pattern.specs.Checks.Range.{someBelow, eachBelow}
-use Rattle.model_file.specs.declared.ModelRefusal.{ModelRefusal}
-use Rattle.model_file.specs.declared.ModelCheck.{ModelCheck}
+use Rattle.model_file.specs.declared.refusal.ModelRefusal.{ModelRefusal}
+use Rattle.model_file.specs.declared.refusal.ModelCheck.{ModelCheck}
 use Rattle.model_file.specs.Layout.{mark, nodeCount, maxNodes, nameCount, maxNames, edgeCount, maxEdges, lengthOf, nameOf, nodeOfRecord, fromOf, axisOf, toOf}
+use Rattle.model_file.specs.Order.{Order, inOrder}
 
 -- "10: under 9 bytes or wrong mark."
 abbrev pub markCheck : List ℕ → Check
@@ -49,17 +50,27 @@ edgeCheck ds i =
     refusesIf
     (not (ltb (fromOf ds i) (nodeCount ds)) || (not (leb (axisOf ds i) maxAxis) || not (ltb (toOf ds i) (nodeCount ds)))) 14 i
 
--- refusals 10 to 14: all name records before any edge record
-unfoldable pub modelCheck : List ℕ → Check
-modelCheck ds = headerCheck ds then eachBelow (nameCount ds) (nameCheck ds) then eachBelow (edgeCount ds) (edgeCheck ds)
+-- 02, Job 3: "28, in each edge record after its 14 check, when it doesn't come after the record before it, place that record". In any order
+-- nothing is out of it.
+unfoldable pub orderCheck : Order → List ℕ → ℕ → Check
+orderCheck order ds i = refusesIf (not (inOrder order ds i)) 28 i
 
--- 01's number and place of each refusal of a model file
+-- "in each edge record after its 14 check"
+unfoldable pub recordCheck : Order → List ℕ → ℕ → Check
+recordCheck order ds i = edgeCheck ds i then orderCheck order ds i
+
+-- refusals 10 to 14 and 28 for files whose edges stand in that order: all name records before any edge record
+unfoldable pub modelCheck : Order → List ℕ → Check
+modelCheck order ds = headerCheck ds then eachBelow (nameCount ds) (nameCheck ds) then eachBelow (edgeCount ds) (recordCheck order ds)
+
+-- the documents' number and place of each refusal of a model file
 abbrev pub refusalNumber : ModelRefusal → ℕ
 refusalNumber ModelRefusal.Mark = 10
 refusalNumber ModelRefusal.Version = 11
 refusalNumber ModelRefusal.Count = 12
 refusalNumber (ModelRefusal.Name j) = 13
 refusalNumber (ModelRefusal.Edge i) = 14
+refusalNumber (ModelRefusal.Order i) = 28
 
 abbrev pub refusalPlace : ModelRefusal → ℕ
 refusalPlace ModelRefusal.Mark = 0
@@ -67,6 +78,7 @@ refusalPlace ModelRefusal.Version = 0
 refusalPlace ModelRefusal.Count = 0
 refusalPlace (ModelRefusal.Name j) = j
 refusalPlace (ModelRefusal.Edge i) = i
+refusalPlace (ModelRefusal.Order i) = i
 
 -- ---- laws
 

@@ -14,11 +14,13 @@ use Rattle.nodeset.specs.Below.{lowest-below, lowest-is}
 use Rattle.pattern.specs.Logic.Finite.{Named}
 use Rattle.pattern.specs.File.Types.{maxName, maxAxis}
 use Rattle.pattern.specs.Checks.Tests.{or-is-false, and-is-true}
-use Rattle.pattern.specs.Checks.Finding.{passes, _then_, then-passes, refusesIf-passes}
-use Rattle.pattern.specs.Checks.Range.{eachBelow, each-at, each-below, none-at, none-below, some-at, some-found}
+use Rattle.pattern.specs.Checks.Finding.{passes, refuses, _then_, then-passes, refusesIf-passes}
+use Rattle.pattern.specs.Checks.Range.{eachBelow, each-at, each-below, each-first, each-same, none-at, none-below, some-at, some-found}
 use Rattle.model_file.specs.Layout.{mark, nodeCount, maxNodes, nameCount, maxNames, edgeCount, maxEdges, lengthOf, nameOf, nodeOfRecord, fromOf, axisOf, toOf}
+use Rattle.model_file.specs.Order.{Order, any, rising, EdgesRise, Ordered, inOrder}
+use Rattle.model_file.specs.Rising.{in-order, ordered}
 use Rattle.model_file.specs.Contents.{recordLeads, leadsIn, recordLists, isListed, recordOfName, nodeNamed, modelFrom}
-use Rattle.model_file.specs.Checks.{markCheck, versionCheck, countCheck, headerCheck, repeatsName, nameCheck, edgeCheck, modelCheck}
+use Rattle.model_file.specs.Checks.{markCheck, versionCheck, countCheck, headerCheck, repeatsName, nameCheck, edgeCheck, orderCheck, recordCheck, modelCheck}
 
 -- a header that meets the checks 10 to 12
 pub record ValidHeader (ds : List ℕ) : Type 0 where
@@ -42,7 +44,7 @@ pub record ValidEdge (ds : List ℕ) (i : ℕ) : Type 0 where
   pub axis-within : axisOf ds i ≤ maxAxis
   pub to-within : toOf ds i < nodeCount ds
 
--- a file that meets every check
+-- a file that meets the checks 10 to 14; that its edges rise, which 28 asks, is said beside it (`EdgesRise`)
 pub record ValidModel (ds : List ℕ) : Type 0 where
   pub header : ValidHeader ds
   pub names : (j : ℕ) → j < nameCount ds → ValidName ds j
@@ -134,29 +136,69 @@ module _ (ds : List ℕ) (i : ℕ) where
         lt-ltb (toOf ds i) (nodeCount ds) (h .to-within),
       )
 
--- a file that the checks pass is valid
-pub model-valid : (ds : List ℕ) → modelCheck ds ≡ passes → ValidModel ds
+-- the check of an edge record: 14 decides first, and of a record that meets it the order
+module _ (order : Order) (ds : List ℕ) (i : ℕ) where
+  pub edge-decides : (number place : ℕ) → edgeCheck ds i ≡ refuses number place → recordCheck order ds i ≡ refuses number place
+  unfolding recordCheck
+  edge-decides number place h = rw h
+
+  pub order-refuses : edgeCheck ds i ≡ passes → inOrder order ds i ≡ false → recordCheck order ds i ≡ refuses 28 i
+  unfolding recordCheck orderCheck
+  order-refuses h e = rw (h, e)
+
+  pub order-passes : edgeCheck ds i ≡ passes → inOrder order ds i ≡ true → recordCheck order ds i ≡ passes
+  unfolding recordCheck orderCheck
+  order-passes h e = rw (h, e)
+
+  record-passes : recordCheck order ds i ≡ passes → ValidEdge ds i × (inOrder order ds i ≡ true)
+  unfolding recordCheck orderCheck
+  record-passes h =
+      let a = then-passes (edgeCheck ds i) (orderCheck order ds i) h in
+      (edge-passes ds i (a .0), not-false _ (refusesIf-passes _ 28 i (a .1)))
+
+-- the first edge record at fault decides, by 14 or by 28: 28 at one record comes before 14 at the next
+pub first-decides : (order : Order) (ds : List ℕ) (i number place : ℕ) → headerCheck ds ≡ passes
+    → eachBelow (nameCount ds) (nameCheck ds) ≡ passes → i < edgeCount ds → ((j : ℕ) → j < i → recordCheck order ds j ≡ passes)
+    → recordCheck order ds i ≡ refuses number place → modelCheck order ds ≡ refuses number place
 unfolding modelCheck
-model-valid ds h =
+first-decides order ds i number place h names l before e =
+    rw (h, names, each-first (recordCheck order ds) (edgeCount ds) i number place l before e)
+
+-- a file that the checks pass is valid, and its edges stand in the order
+pub model-valid : (order : Order) (ds : List ℕ) → modelCheck order ds ≡ passes → ValidModel ds × Ordered order ds
+unfolding modelCheck
+model-valid order ds h =
     let names = eachBelow (nameCount ds) (nameCheck ds) in
-    let edges = eachBelow (edgeCount ds) (edgeCheck ds) in
+    let edges = eachBelow (edgeCount ds) (recordCheck order ds) in
     let a = then-passes (headerCheck ds) (names then edges) h in
     let b = then-passes names edges (a .1) in
-    record {
-      header = header-passes ds (a .0);
-      names = λ j l. name-passes ds j (each-at (nameCheck ds) (nameCount ds) j (b .0) l);
-      edges = λ i l. edge-passes ds i (each-at (edgeCheck ds) (edgeCount ds) i (b .1) l);
-    }
+    let each : (i : ℕ) → i < edgeCount ds → ValidEdge ds i × (inOrder order ds i ≡ true) =
+    λ i l. record-passes order ds i (each-at (recordCheck order ds) (edgeCount ds) i (b .1) l) in (
+      record {
+        header = header-passes ds (a .0);
+        names = λ j l. name-passes ds j (each-at (nameCheck ds) (nameCount ds) j (b .0) l);
+        edges = λ i l. each i l .0;
+      },
+      ordered order ds (λ i l. each i l .1),
+    )
 
--- the checks pass a valid file
-pub model-accepted : (ds : List ℕ) → ValidModel ds → modelCheck ds ≡ passes
+-- the checks pass a valid file whose edges stand in the order
+pub model-accepted : (order : Order) (ds : List ℕ) → ValidModel ds → Ordered order ds → modelCheck order ds ≡ passes
 unfolding modelCheck
-model-accepted ds h =
+model-accepted order ds h o =
     rw (
       header-accepted ds (h .header),
       each-below (nameCheck ds) (nameCount ds) (λ j l. name-accepted ds j (h .names j l)),
-      each-below (edgeCheck ds) (edgeCount ds) (λ i l. edge-accepted ds i (h .edges i l)),
+      each-below (recordCheck order ds) (edgeCount ds) (λ i l. order-passes order ds i (edge-accepted ds i (h .edges i l)) (in-order order ds o i l)),
     )
+
+-- where the edges rise, the checks are those of files in any order
+pub model-unordered : (ds : List ℕ) → EdgesRise ds → modelCheck rising ds ≡ modelCheck any ds
+unfolding modelCheck recordCheck orderCheck
+model-unordered ds h = rw (each-same (recordCheck rising ds) (recordCheck any ds) (edgeCount ds) same)
+  where
+    same : (i : ℕ) → i < edgeCount ds → recordCheck rising ds i ≡ recordCheck any ds i
+    same i l = rw (in-order rising ds h i l)
 
 -- the model of a valid file
 module _ {ds : List ℕ} (ok : ValidModel ds) where

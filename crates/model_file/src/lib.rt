@@ -1,12 +1,13 @@
-// The model file: the fields of its records, its checks, document 01's refusals 10 to 14, in its
-// order, and the names that it lists. Each check answers that it passed or the refusal, and the first
-// refusal decides.
+// The model file: the fields of its records, its checks, document 01's refusals 10 to 14 and document
+// 02's 28, in their order, and the names that it lists. Each check answers that it passed or the
+// refusal, and the first refusal decides.
+mod edges;
 mod records;
+mod refusal;
 
+use edges::check_edges;
 use names::NameSet;
 use nodeset::NodeSet;
-use pattern::types::Axis;
-use pattern::types::AxisMade;
 use pattern::types::Name;
 use pattern::types::NameMade;
 pub use records::edge_axis;
@@ -20,15 +21,18 @@ pub use records::name_of;
 pub use records::node_count;
 pub use records::node_of_record;
 pub use records::value_on;
+pub use refusal::ModelCheck;
+pub use refusal::ModelRefusal;
 ghost use mathlib.Core.Path.{_≡_};
 ghost use Prim.Native.Nat.{_+_, _≤_};
 ghost use lib.ListN.{length};
 ghost use lib.Dec.{leb};
-ghost use Rattle.pattern.specs.File.Types.{maxName, maxAxis};
+ghost use Rattle.pattern.specs.File.Types.{maxName};
 ghost use Rattle.names.specs.Set.{SetOf};
 ghost use Rattle.pattern.specs.Checks.Range.{eachBelow};
-ghost use Rattle.model_file.specs.Layout.{nameCount, edgeCount, nameRecord, edgeRecord, lengthOf};
-ghost use Rattle.model_file.specs.Checks.{countsWrong, headerCheck, repeatsName, nameCheck, edgeCheck, modelCheck, refusalNumber, refusalPlace, checkOf};
+ghost use Rattle.model_file.specs.Layout.{nameCount, nameRecord, lengthOf};
+ghost use Rattle.model_file.specs.Order.{rising};
+ghost use Rattle.model_file.specs.Checks.{countsWrong, headerCheck, repeatsName, nameCheck, modelCheck, checkOf};
 ghost use Rattle.model_file.specs.Contents.{isListed};
 ghost use Rattle.model_file.specs.Valid.{ValidModel};
 
@@ -39,63 +43,12 @@ const MAX_NAMES: u8 = 128;
 
 const MAX_EDGES: u16 = 4096;
 
-// Document 01's refusals 10 to 14; those that have a place hold the record's number.
-pub enum ModelRefusal {
-    Mark,
-    Version,
-    Count,
-    Name(u8),
-    Edge(u16),
-}
-
-impl ModelRefusal {
-    // Document 01's number of the refusal.
-    pub fn number(self) -> u8
-        ensures { λ r. ⌜ r ≡ refusalNumber self ⌝ }
-    {
-        match self {
-            ModelRefusal::Mark => 10,
-            ModelRefusal::Version => 11,
-            ModelRefusal::Count => 12,
-            ModelRefusal::Name(_) => 13,
-            ModelRefusal::Edge(_) => 14,
-        }
-    }
-
-    // Its place: the record's number, or 0.
-    pub fn place(self) -> u16
-        ensures { λ r. ⌜ r ≡ refusalPlace self ⌝ }
-    {
-        match self {
-            ModelRefusal::Mark => 0,
-            ModelRefusal::Version => 0,
-            ModelRefusal::Count => 0,
-            ModelRefusal::Name(j) => j as u16,
-            ModelRefusal::Edge(i) => i,
-        }
-    }
-}
-
-pub enum ModelCheck {
-    Passed,
-    Refused(ModelRefusal),
-}
-
 fn is_name(v: u8) -> bool
     ensures { λ r. ⌜ r ≡ leb v maxName ⌝ }
 {
     match Name::of(v) {
         NameMade::Made(_) => true,
         NameMade::OutOfRange => false,
-    }
-}
-
-fn is_axis(v: u8) -> bool
-    ensures { λ r. ⌜ r ≡ leb v maxAxis ⌝ }
-{
-    match Axis::of(v) {
-        AxisMade::Made(_) => true,
-        AxisMade::OutOfRange => false,
     }
 }
 
@@ -189,43 +142,9 @@ fn check_names(d: &[u8]) -> ModelCheck
     ModelCheck::Passed
 }
 
-// Refusal 14 of edge record i.
-fn check_edge(d: &[u8], i: u16) -> ModelCheck
-    requires { ⌜ edgeRecord (now d) i + 3 ≤ length (now d) ⌝ }
-    ensures { λ r. ⌜ checkOf r ≡ edgeCheck (now (d .entry)) i ⌝ }
-{
-    let n = node_count(d);
-    if n <= edge_from(d, i) {
-        return ModelCheck::Refused(ModelRefusal::Edge(i));
-    }
-    if !is_axis(edge_axis(d, i)) {
-        return ModelCheck::Refused(ModelRefusal::Edge(i));
-    }
-    if n <= edge_to(d, i) {
-        return ModelCheck::Refused(ModelRefusal::Edge(i));
-    }
-    ModelCheck::Passed
-}
-
-// Refusal 14 of the edge records, in their order.
-fn check_edges(d: &[u8]) -> ModelCheck
-    requires { ⌜ length (now d) ≡ lengthOf (now d) ⌝ }
-    ensures { λ r. ⌜ checkOf r ≡ eachBelow (edgeCount (now (d .entry))) (edgeCheck (now (d .entry))) ⌝ }
-{
-    let k = edge_count(d);
-    let mut i = 0;
-    while i < k {
-        if let ModelCheck::Refused(refusal) = check_edge(d, i) {
-            return ModelCheck::Refused(refusal);
-        }
-        i += 1;
-    }
-    ModelCheck::Passed
-}
-
 // Checks a model file: any bytes of any length pass, or give the first refusal.
 pub fn check(d: &[u8]) -> ModelCheck
-    ensures { λ r. ⌜ checkOf r ≡ modelCheck (now (d .entry)) ⌝ }
+    ensures { λ r. ⌜ checkOf r ≡ modelCheck rising (now (d .entry)) ⌝ }
 {
     if let ModelCheck::Refused(refusal) = check_header(d) {
         return ModelCheck::Refused(refusal);

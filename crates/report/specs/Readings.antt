@@ -24,10 +24,11 @@ use Rattle.decision.specs.Judged.{unmet, judgedBy, judgedOf, judged-says}
 use Rattle.pattern.specs.Meaning.Names.{usesName}
 use Rattle.model_file.specs.Layout as layout
 use Rattle.model_file.specs.Contents.{leadsIn, isListed, nodeNamed, modelFrom}
+use Rattle.model_file.specs.Order.{EdgesRise, comesBefore, rising}
 use Rattle.model_file.specs.Checks as file
-use Rattle.model_file.specs.Checks.{nameCheck, edgeCheck, modelCheck}
+use Rattle.model_file.specs.Checks.{nameCheck, edgeCheck, orderCheck, recordCheck, modelCheck}
 use Rattle.model_file.specs.Valid.{ValidModel, all-named}
-use Rattle.model.specs.Judging.{areaNeed, namesCheck, judgingCheck, judgingOf, NamesListed, checks-pass, judging-finds, judging-refuses}
+use Rattle.model.specs.Judging.{areaNeed, namesCheck, judgingCheck, judgingBy, judgingOf, NamesListed, checks-pass, judging-finds, judging-refuses}
 use Rattle.lines.specs.Lines.{branchHas}
 use Rattle.rules.specs.Rules.{ruleAt}
 use Rattle.steps.specs.Steps.{stepAt, stepsFrom, stepping}
@@ -124,7 +125,7 @@ patternI = patternFile 1 (7 ∷ 0 ∷ 255 ∷ 255 ∷ [])
 abbrev pub I : Type 0
 I =
     ((model : Finite) → Named model → judgedOf model (rootOf patternI) ≡ unmet)
-    × ((ds : List ℕ) (size : ℕ) → ValidModel ds → areaNeed patternI ≤ size → judgingOf patternI ds size ≡ found unmet)
+    × ((ds : List ℕ) (size : ℕ) → ValidModel ds → EdgesRise ds → areaNeed patternI ≤ size → judgingOf patternI ds size ≡ found unmet)
     × ((ds : List ℕ) (size : ℕ)
     → (judgingOf patternI ds size ≡ found unmet) ⊎ ((number : ℕ) × ((place : ℕ) × (judgingOf patternI ds size ≡ refused number place))))
 
@@ -166,8 +167,30 @@ Job2 =
     × Prints patternAfter (tableauFile 9 1 (step 5 0 0 5)) "refused 22 0"
     × Prints patternAfter (tableauFile 9 1 (step 5 0 0 69)) "refused 26 1"
 
+-- 02, Job 3: "Edges must rise strictly by from, then axis, then to, compared as numbers. A repeat is therefore refused too. .. Turned away: 28,
+-- in each edge record after its 14 check, when it doesn't come after the record before it, place that record; 27 follows all edge records."
+-- Two nodes: edges that rise though to and then axis fall, and one that is the first; a repeat; a lower to, a lower axis with a higher to,
+-- and a lower from; 28 at record 1 before 14 at record 2, 14 before 28 in one record, and 28 before 27.
+abbrev pub patternP : List ℕ
+patternP = patternFile 1 (1 ∷ 0 ∷ 0 ∷ 0 ∷ [])
+
+abbrev pub edges : ℕ → List ℕ → List ℕ
+edges k records = modelFile 2 0 k (node 0 ++ node 0 ++ records)
+
+abbrev pub Job3 : Type 0
+Job3 =
+    Prints patternP (edges 3 (0 ∷ 0 ∷ 1 ∷ 0 ∷ 1 ∷ 0 ∷ 1 ∷ 0 ∷ 0 ∷ [])) "unmet"
+    × Prints patternP (edges 1 (1 ∷ 7 ∷ 1 ∷ [])) "unmet"
+    × Prints patternP (edges 3 (0 ∷ 0 ∷ 1 ∷ 1 ∷ 0 ∷ 0 ∷ 1 ∷ 0 ∷ 0 ∷ [])) "refused 28 2"
+    × Prints patternP (edges 2 (0 ∷ 0 ∷ 1 ∷ 0 ∷ 0 ∷ 0 ∷ [])) "refused 28 1"
+    × Prints patternP (edges 2 (0 ∷ 1 ∷ 0 ∷ 0 ∷ 0 ∷ 1 ∷ [])) "refused 28 1"
+    × Prints patternP (edges 2 (1 ∷ 0 ∷ 0 ∷ 0 ∷ 7 ∷ 1 ∷ [])) "refused 28 1"
+    × Prints patternP (edges 3 (0 ∷ 0 ∷ 1 ∷ 0 ∷ 0 ∷ 0 ∷ 2 ∷ 0 ∷ 0 ∷ [])) "refused 28 1"
+    × Prints patternP (edges 2 (1 ∷ 0 ∷ 0 ∷ 0 ∷ 8 ∷ 0 ∷ [])) "refused 14 1"
+    × Prints pattern6 (edges 2 (0 ∷ 0 ∷ 0 ∷ 0 ∷ 0 ∷ 0 ∷ [])) "refused 28 1"
+
 abbrev pub readings : List (Type 0)
-readings = A ∷ B ∷ C ∷ D ∷ E ∷ F ∷ G ∷ H ∷ I ∷ J ∷ Job1 ∷ Job2 ∷ []
+readings = A ∷ B ∷ C ∷ D ∷ E ∷ F ∷ G ∷ H ∷ I ∷ J ∷ Job1 ∷ Job2 ∷ Job3 ∷ []
 
 -- ---- laws
 
@@ -200,19 +223,20 @@ I-holds = (always-unmet, files, any)
     listed : (ds : List ℕ) → NamesListed patternI ds
     listed ds i used = absurd (false≢true (sym (nameless-I i) ∙ used))
 
-    files : (ds : List ℕ) (size : ℕ) → ValidModel ds → areaNeed patternI ≤ size → judgingOf patternI ds size ≡ found unmet
-    files ds size ok l =
-        judging-finds patternI ds size (checks-pass patternI ds size .1 (valid patternI 1 reads-I, l, ok, listed ds)) ∙ ap found (always-unmet (modelFrom ds) (all-named ok))
+    files : (ds : List ℕ) (size : ℕ) → ValidModel ds → EdgesRise ds → areaNeed patternI ≤ size → judgingOf patternI ds size ≡ found unmet
+    files ds size ok rise l =
+        judging-finds patternI ds size (checks-pass rising patternI ds size .1 (valid patternI 1 reads-I, l, ok, rise, listed ds))
+        ∙ ap found (always-unmet (modelFrom ds) (all-named ok))
 
     any : (ds : List ℕ) (size : ℕ)
         → (judgingOf patternI ds size ≡ found unmet) ⊎ ((number : ℕ) × ((place : ℕ) × (judgingOf patternI ds size ≡ refused number place)))
-    any ds size = go (judgingCheck patternI ds size) refl
+    any ds size = go (judgingCheck rising patternI ds size) refl
       where
-        go : (c : Check) → judgingCheck patternI ds size ≡ c
+        go : (c : Check) → judgingCheck rising patternI ds size ≡ c
             → (judgingOf patternI ds size ≡ found unmet) ⊎ ((number : ℕ) × ((place : ℕ) × (judgingOf patternI ds size ≡ refused number place)))
-        go passes e = inl (files ds size (checks-pass patternI ds size .0 e .2) (checks-pass patternI ds size .0 e .1))
+        go passes e = let ok = checks-pass rising patternI ds size .0 e in inl (files ds size (ok .2) (ok .3) (ok .1))
         go (refuses number place) e = inr (number, (place, judging-refuses patternI ds size number place e))
 
 pub readings-hold : All readings
-unfolding readingOf patternCheck headerCheck entryCheck rootCheck eachField someBelow eachBelow sameBytes judgingOf judgingCheck namesCheck modelCheck file.headerCheck nameCheck edgeCheck isListed nodeAt nodeWithin pathWithin holdsTest leadsTest judgedBy lowestBelow countBelow leadsIn nodeNamed tableau.judgingOf tableau.judgingCheck tableau.headerCheck tableau.runOf run stepping ruleAt stepAt stepsFrom branchHas usesName digitsWithin
-readings-hold = (refl, (refl, (refl, (refl, (refl, (refl, (refl, (refl, (I-holds, ((refl, refl, refl, refl), ((refl, refl, refl, refl, refl), ((refl, refl, refl, refl), tt))))))))))))
+unfolding readingOf patternCheck headerCheck entryCheck rootCheck eachField someBelow eachBelow sameBytes judgingBy judgingCheck namesCheck modelCheck file.headerCheck nameCheck edgeCheck orderCheck recordCheck comesBefore isListed nodeAt nodeWithin pathWithin holdsTest leadsTest judgedBy lowestBelow countBelow leadsIn nodeNamed tableau.judgingOf tableau.judgingCheck tableau.headerCheck tableau.runOf run stepping ruleAt stepAt stepsFrom branchHas usesName digitsWithin
+readings-hold = (refl, (refl, (refl, (refl, (refl, (refl, (refl, (refl, (I-holds, ((refl, refl, refl, refl), ((refl, refl, refl, refl, refl), ((refl, refl, refl, refl), ((refl, refl, refl, refl, refl, refl, refl, refl, refl), tt)))))))))))))

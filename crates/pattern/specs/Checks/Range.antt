@@ -88,3 +88,9 @@ module _ (check : ℕ → Check) where
           → check k ≡ passes
       go (inl p) b f = rw p (b .1)
       go (inr l) b f = f l
+
+-- checks that are the same of each number below n are the same in turn
+pub each-same : (check other : ℕ → Check) (n : ℕ) → ((k : ℕ) → k < n → check k ≡ other k) → eachBelow n check ≡ eachBelow n other
+unfolding eachBelow
+each-same check other zero same = refl
+each-same check other (suc n) same = rw (each-same check other n (λ k h. same k (lt-trans h (lt-suc-self n))), same n (lt-suc-self n))

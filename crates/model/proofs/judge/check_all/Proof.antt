@@ -7,6 +7,7 @@ use mathlib.Core.Path.{_≡_, sym, _∙_, ap}
 use Rattle.pattern.specs.Checks.Finding.{found, passes}
 use Rattle.pattern.specs.File.Reading.{patternCheck, readingOf, findingOf}
 use Rattle.pattern.specs.File.Valid.{read-passes, read-refuses}
+use Rattle.model_file.specs.Order.{rising}
 use Rattle.model_file.specs.Checks.{modelCheck, checkOf}
 use Rattle.model_file.specs.Valid.{model-valid}
 use Rattle.model.specs.Judging.{judgingCheck, file-decides, names-decide}
@@ -49,23 +50,23 @@ enum-known-refusal-2 c = search needs
 returns-3 : tie.Need-returns-3
 returns-3 c = let k = c .before .before .before in
     sym
-    (file-decides _ _ _ (pattern-passed (k .before .before .before)) (k .before .if1 .left) _ _
+    (file-decides _ _ _ _ (pattern-passed (k .before .before .before)) (k .before .if1 .left) _ _
     (sym (k .check .ensures) ∙ ap checkOf (c .before .refusal2 .given .1)))
 
 enum-told : tie.Need-enum-told
 enum-told c = search needs
 
 model-passed : (c : tie.After-enum-told)
-    → modelCheck (c .before .before .before .before .before .before .before .before .before .before .args .d .now) ≡ passes
+    → modelCheck rising (c .before .before .before .before .before .before .before .before .before .before .args .d .now) ≡ passes
 model-passed c = sym (c .before .before .check .ensures) ∙ ap checkOf (c .enum-told .given .1)
 
 check-listed-requires : tie.Need-check-listed-requires
-check-listed-requires c κs = (pattern-read (c .before .before .before .before .before), model-valid _ (model-passed c))
+check-listed-requires c κs = (pattern-read (c .before .before .before .before .before), model-valid _ _ (model-passed c) .0)
 
 returns-4 : tie.Need-returns-4
 returns-4 c = let k = c .before in
     c .check-listed .ensures
-    ∙ sym (names-decide _ _ _ (pattern-passed (k .before .before .before .before .before)) (k .before .before .before .if1 .left) (model-passed k))
+    ∙ sym (names-decide _ _ _ _ (pattern-passed (k .before .before .before .before .before)) (k .before .before .before .if1 .left) (model-passed k))
 
 pub check-all-spec : {M : Type 1} → statement M
 check-all-spec =

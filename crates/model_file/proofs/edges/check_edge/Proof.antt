@@ -1,4 +1,4 @@
--- `model_file::check_edge` meets its contract: each test is one of `edgeCheck`, asked in its order. What each test shows is said once, at
+-- `model_file::edges::check_edge` meets its contract: each test is one of `edgeCheck`, asked in its order. What each test shows is said once, at
 -- the place behind it.
 -- Assumes nothing.
 use borrow.Author.Needs.{needs}
@@ -11,8 +11,8 @@ use lib.Dec.{leb}
 use Rattle.pattern.specs.File.Types.{maxAxis}
 use Rattle.model_file.specs.Layout.{nodeCount, fromOf, axisOf, toOf}
 use Rattle.model_file.specs.Checks.{edgeCheck}
-use Rattle.model_file.proofs.check_edge.Statement.{statement}
-use Rattle.model_file.proofs.check_edge.Tie as tie
+use Rattle.model_file.proofs.edges.check_edge.Statement.{statement}
+use Rattle.model_file.proofs.edges.check_edge.Tie as tie
 
 node-count-requires : tie.Need-node-count-requires
 node-count-requires c κs = search needs

@@ -1,10 +1,10 @@
--- `model_file::is_axis` meets its contract: what the making function answers says whether the value is in range.
+-- `model_file::edges::is_axis` meets its contract: what the making function answers says whether the value is in range.
 -- Assumes nothing.
 use borrow.Author.Needs.{needs}
 use Rattle.pattern.specs.File.Types.{maxAxis}
 use Rattle.pattern.specs.File.Made.{made-within, out-beyond}
-use Rattle.model_file.proofs.is_axis.Statement.{statement}
-use Rattle.model_file.proofs.is_axis.Tie as tie
+use Rattle.model_file.proofs.edges.is_axis.Statement.{statement}
+use Rattle.model_file.proofs.edges.is_axis.Tie as tie
 
 of-requires : tie.Need-of-requires
 of-requires c κs = search needs

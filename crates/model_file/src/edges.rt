@@ -1,0 +1,81 @@
+// The checks of the edge records: in each of them document 01's refusal 14, and then document 02's 28.
+use crate::records::edge_axis;
+use crate::records::edge_count;
+use crate::records::edge_from;
+use crate::records::edge_to;
+use crate::records::node_count;
+use crate::refusal::ModelCheck;
+use crate::refusal::ModelRefusal;
+use pattern::types::Axis;
+use pattern::types::AxisMade;
+ghost use mathlib.Core.Path.{_≡_};
+ghost use Prim.Native.Nat.{_+_, _≤_};
+ghost use lib.ListN.{length};
+ghost use lib.Dec.{leb};
+ghost use Rattle.pattern.specs.File.Types.{maxAxis};
+ghost use Rattle.pattern.specs.Checks.Range.{eachBelow};
+ghost use Rattle.model_file.specs.Layout.{edgeCount, edgeRecord, lengthOf};
+ghost use Rattle.model_file.specs.Order.{edgeAt, rising};
+ghost use Rattle.model_file.specs.Rising.{rankOf};
+ghost use Rattle.model_file.specs.Checks.{edgeCheck, recordCheck, checkOf};
+
+fn is_axis(v: u8) -> bool
+    ensures { λ r. ⌜ r ≡ leb v maxAxis ⌝ }
+{
+    match Axis::of(v) {
+        AxisMade::Made(_) => true,
+        AxisMade::OutOfRange => false,
+    }
+}
+
+// Refusal 14 of edge record i.
+fn check_edge(d: &[u8], i: u16) -> ModelCheck
+    requires { ⌜ edgeRecord (now d) i + 3 ≤ length (now d) ⌝ }
+    ensures { λ r. ⌜ checkOf r ≡ edgeCheck (now (d .entry)) i ⌝ }
+{
+    let n = node_count(d);
+    if n <= edge_from(d, i) {
+        return ModelCheck::Refused(ModelRefusal::Edge(i));
+    }
+    if !is_axis(edge_axis(d, i)) {
+        return ModelCheck::Refused(ModelRefusal::Edge(i));
+    }
+    if n <= edge_to(d, i) {
+        return ModelCheck::Refused(ModelRefusal::Edge(i));
+    }
+    ModelCheck::Passed
+}
+
+// An edge record as one number, which is lower for the one of two records that comes before the other.
+fn edge_rank(d: &[u8], i: u16) -> u32
+    requires { ⌜ edgeRecord (now d) i + 3 ≤ length (now d) ⌝ }
+    ensures { λ r. ⌜ r ≡ rankOf (edgeAt (now (d .entry)) i) ⌝ }
+{
+    let from = edge_from(d, i) as u32;
+    let axis = edge_axis(d, i) as u32;
+    let to = edge_to(d, i) as u32;
+    (from * 256 + axis) * 256 + to
+}
+
+// Refusals 14 and 28 of the edge records, in their order. A record must come after the one before it:
+// its number is at least one higher.
+pub fn check_edges(d: &[u8]) -> ModelCheck
+    requires { ⌜ length (now d) ≡ lengthOf (now d) ⌝ }
+    ensures { λ r. ⌜ checkOf r ≡ eachBelow (edgeCount (now (d .entry))) (recordCheck rising (now (d .entry))) ⌝ }
+{
+    let k = edge_count(d);
+    let mut least = 0;
+    let mut i = 0;
+    while i < k {
+        if let ModelCheck::Refused(refusal) = check_edge(d, i) {
+            return ModelCheck::Refused(refusal);
+        }
+        let rank = edge_rank(d, i);
+        if rank < least {
+            return ModelCheck::Refused(ModelRefusal::Order(i));
+        }
+        least = rank + 1;
+        i += 1;
+    }
+    ModelCheck::Passed
+}
