@@ -24,10 +24,11 @@ use Rattle.decision.specs.Decision.{holdsTest}
 use Rattle.decision.specs.Judged.{Judged, met, unmet, judgedBy, judgedOf, Says, judged-says, judged-same}
 use Rattle.pattern.specs.File.Reading as reading
 use Rattle.model_file.specs.Checks as file
-use Rattle.model_file.specs.Layout.{nodeCount}
+use Rattle.model_file.specs.Layout.{nodeCount, edgeCount}
 use Rattle.decision.specs.Root.{rootHolds, renamed, judged-renamed}
 use Rattle.model_file.specs.Contents.{isListed, nodeNamed, modelFrom}
-use Rattle.model_file.specs.Order.{Order, any, rising, EdgesRise, Ordered}
+use Rattle.model_file.specs.Order.{Order, any, rising, edgeAt, EdgesRise}
+use Rattle.model_file.specs.Rising.{Ordered, no-repeat}
 use Rattle.model_file.specs.Checks.{modelCheck}
 use Rattle.model_file.specs.Valid.{ValidModel, model-valid, model-accepted, model-unordered, all-named}
 use Rattle.model.specs.declared.judge.JudgeRefusal.{JudgeRefusal}
@@ -203,13 +204,13 @@ judging-says bs ds size j = (apart, together)
 
 -- ---- what 02's jobs left as it was
 
--- what judging finds without 02's Job 1, whose check is the last
-abbrev pub judgingUnlisted : Order → List ℕ → List ℕ → ℕ → Finding Judged
-judgingUnlisted order bs ds size = unless (patternCheck bs then areaCheck bs size then modelCheck order ds) (judgedOf (modelFrom ds) (rootOf bs))
+-- what judging finds without the check of 02's Job 1, the last; in any order it is what 01 says
+abbrev pub judgingBefore : Order → List ℕ → List ℕ → ℕ → Finding Judged
+judgingBefore order bs ds size = unless (patternCheck bs then areaCheck bs size then modelCheck order ds) (judgedOf (modelFrom ds) (rootOf bs))
 
--- a model that lists the names of the pattern is judged so
+-- a model that lists the names of the pattern is judged as before that job
 pub listed-as-before : (order : Order) (bs ds : List ℕ) (size : ℕ) → NamesListed bs ds
-    → judgingBy order bs ds size ≡ judgingUnlisted order bs ds size
+    → judgingBy order bs ds size ≡ judgingBefore order bs ds size
 unfolding judgingBy judgingCheck
 listed-as-before order bs ds size h =
     rw (names-accepted bs ds h)
@@ -223,13 +224,18 @@ listed-as-before order bs ds size h =
 
 -- "Readings without names keep their findings.": so is any model, for a pattern that uses no name
 pub nameless-as-before : (order : Order) (bs ds : List ℕ) (size : ℕ) → ((i : ℕ) → usesName bs i ≡ false)
-    → judgingBy order bs ds size ≡ judgingUnlisted order bs ds size
+    → judgingBy order bs ds size ≡ judgingBefore order bs ds size
 nameless-as-before order bs ds size none = listed-as-before order bs ds size (λ i used. absurd (false≢true (sym (none i) ∙ used)))
 
 -- a model whose edges rise, as G's do, is judged as without 02's Job 3, refusals included
 pub rising-as-before : (bs ds : List ℕ) (size : ℕ) → EdgesRise ds → judgingOf bs ds size ≡ judgingBy any bs ds size
 unfolding judgingBy judgingCheck
 rising-as-before bs ds size h = rw (model-unordered ds h)
+
+-- "A repeat is therefore refused too.": nothing is found of a file that has an edge twice
+pub repeat-refused : (bs ds : List ℕ) (size : ℕ) (j : Judged) → judgingOf bs ds size ≡ found j
+    → (i k : ℕ) → i < k → k < edgeCount ds → edgeAt ds i ≡ edgeAt ds k → ⊥
+repeat-refused bs ds size j h = no-repeat (edgeCount ds) (edgeAt ds) (judging-says bs ds size j .0 h .edges-rise)
 
 -- "node 0 stands in only for names that the pattern doesn't use": whatever nodes they named instead, the finding would be the same
 pub stand-in-unseen : (bs ds : List ℕ) (size : ℕ) (j : Judged) → judgingOf bs ds size ≡ found j

@@ -4,4 +4,5 @@ pub mod Contents
 pub mod Order
 pub mod Checks
 pub mod Rising
+pub mod OneFile
 pub mod Valid

@@ -17,8 +17,8 @@ use Rattle.pattern.specs.Checks.Tests.{or-is-false, and-is-true}
 use Rattle.pattern.specs.Checks.Finding.{passes, refuses, _then_, then-passes, refusesIf-passes}
 use Rattle.pattern.specs.Checks.Range.{eachBelow, each-at, each-below, each-first, each-same, none-at, none-below, some-at, some-found}
 use Rattle.model_file.specs.Layout.{mark, nodeCount, maxNodes, nameCount, maxNames, edgeCount, maxEdges, lengthOf, nameOf, nodeOfRecord, fromOf, axisOf, toOf}
-use Rattle.model_file.specs.Order.{Order, any, rising, EdgesRise, Ordered, inOrder}
-use Rattle.model_file.specs.Rising.{in-order, ordered}
+use Rattle.model_file.specs.Order.{Order, any, rising, EdgesRise, inOrder}
+use Rattle.model_file.specs.Rising.{Ordered, ordered, in-order}
 use Rattle.model_file.specs.Contents.{recordLeads, leadsIn, recordLists, isListed, recordOfName, nodeNamed, modelFrom}
 use Rattle.model_file.specs.Checks.{markCheck, versionCheck, countCheck, headerCheck, repeatsName, nameCheck, edgeCheck, orderCheck, recordCheck, modelCheck}
 
