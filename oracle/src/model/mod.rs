@@ -55,8 +55,8 @@ fn admit(pattern: &[u8], model: &[u8], area: usize) -> Result<(Pattern, Model), 
     Ok((pattern, model))
 }
 
-/// Job 1: "27, after every 14 check, when the model doesn't list a name of the pattern, place the lowest such name";
-/// Job 3: "27 follows all edge records."
+/// Job 1: "27, after every 14 check, when the model doesn't list a name of the pattern, place the lowest such
+/// name"; Job 3: "27 follows all edge records."
 pub fn check_names(pattern: &Pattern, model: &Model) -> Result<(), Refusal> {
     match pattern.names().into_iter().find(|&name| !model.lists(name)) {
         Some(name) => Err(Refusal { number: 27, place: name.into() }),

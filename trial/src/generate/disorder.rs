@@ -24,8 +24,8 @@ pub fn disorder(random: &mut Random, file: &mut [u8]) {
     }
 }
 
-/// Makes the record one that doesn't come after the record before it, from which it has its fields: a repeat, or one
-/// of them lower and those behind it any.
+/// Makes the record one that doesn't come after the record before it, from which it has its fields: a repeat, or
+/// one of them lower and those behind it any.
 pub fn fall(random: &mut Random, edges: &mut [[u8; 3]], nodes: u8, place: usize) {
     let mut record = edges[place - 1];
     let lower = random.below(4);

@@ -47,8 +47,8 @@ impl Renaming {
         }
     }
 
-    /// Renames in a model file that mustn't be refused but for its names, and puts its edges in order again. A name that
-    /// the pattern uses is listed afterwards just if it was before.
+    /// Renames in a valid model file, and puts its edges in order again. A name that the pattern uses is listed
+    /// afterwards just if it was before.
     pub fn model(self, file: &mut [u8]) {
         let (nodes, names) = (file[5] as usize, file[6] as usize);
         let (node_records, rest) = file[9..].split_at_mut(12 * nodes);

@@ -104,7 +104,7 @@ impl Edges {
     }
 }
 
-/// The faulty judge as an implementation: what comes before the edges, and the names behind them, are as they should be.
+/// The faulty judge as an implementation: what is checked before the edges and behind them is as it should be.
 pub fn unordered(refuses: fn(&Edges) -> Option<Refusal>, operation: Operation, lent: Lent) -> Finding {
     let mut kept = lent.area.to_vec();
     let oracle = Lent { pattern: &mut *lent.pattern, proposal: &mut *lent.proposal, area: &mut kept };
