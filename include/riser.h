@@ -38,9 +38,11 @@ static inline unsigned riser_part(uint64_t answer, unsigned k) { return (answer 
 /* Reads a pattern: RISER_READ, or RISER_REFUSED with number 1 to 8. */
 uint64_t riser_read(const uint8_t *pattern, size_t pattern_length);
 
-/* Judges a model of a pattern: RISER_MET, RISER_UNMET, or RISER_REFUSED with number 1 to 14 or 27, which
- * leaves the area unchanged. Met and unmet leave its first 2,040 bytes zero and the rest unchanged. A model
- * must list every name that the pattern uses: 27 gives the lowest that isn't listed as its place. */
+/* Judges a model of a pattern: RISER_MET, RISER_UNMET, or RISER_REFUSED with number 1 to 14, 27 or 28,
+ * which leaves the area unchanged. Met and unmet leave its first 2,040 bytes zero and the rest unchanged. A
+ * model must list every name that the pattern uses: 27 gives the lowest that isn't listed as its place. Its
+ * edges must rise by from, then axis, then to, each once: 28 gives the first record that doesn't come after
+ * the one before it. */
 uint64_t riser_judge_model(const uint8_t *pattern, size_t pattern_length, const uint8_t *model,
                            size_t model_length, uint8_t *area, size_t area_length);
 

@@ -98,11 +98,11 @@ fn a_model_with_everything() {
     let proposal = model(
         &[(5, [1, 2, 3, 4]), (1 << 31, [0, 0, 0, 65535])],
         &[[4, 1], [77, 1], [3, 0]],
-        &[[0, 1, 1], [1, 7, 0], [0, 1, 0], [0, 1, 1]],
+        &[[0, 1, 0], [0, 1, 1], [0, 6, 1], [1, 7, 0]],
     );
     let expected = "
 Model of 2 nodes, 3 names, 4 edges:
-  node 0: p0 p2; values 1 2 3 4; named n3; a1 to 0 1
+  node 0: p0 p2; values 1 2 3 4; named n3; a1 to 0 1; a6 to 1
   node 1: p31; values 0 0 0 65535; named n4 n77; a7 to 0
 Where the node entries hold:
   e0 n3: node 0
@@ -211,7 +211,7 @@ Model of 2 nodes, 2 names, 1 edge:
   node 0: values 0 0 0 0; named n3; a2 to 1
   node 1: values 1 0 0 0; named n5
 
-Finding: refused 27 6: name n6 of the pattern isn't listed: was its meter removed?
+Finding: refused 27 6, name n6: the pattern uses it and the model doesn't list it (was its meter removed?).
 Entry 0 of the pattern has it.
 ";
     let unreached = pattern(&[[2, 6, 0, 0], [2, 5, 0, 0]]);
@@ -229,10 +229,38 @@ Entry 0 of the pattern has it.
     ]);
     assert_eq!(
         finding(&several, &removed),
-        "Finding: refused 27 6: name n6 of the pattern isn't listed: was its meter removed?\n\
+        "Finding: refused 27 6, name n6: the pattern uses it and the model doesn't list it (was its meter removed?).\n\
          Entries 1 3 of the pattern have it.\n\
          Not listed either: n90 n127.\n"
     );
+}
+
+#[test]
+fn edges_that_do_not_rise() {
+    let a = pattern(&ENTRIES_A);
+    let said = |edges: &[[u8; 3]]| finding(&a, &model(&[plain(0); 3], &[[1, 0]], edges));
+    let meaning =
+        "it doesn't come after the record before it (edges rise by from, then axis, then to, each once)";
+    assert_eq!(
+        said(&[[0, 0, 0], [0, 0, 1], [0, 2, 1], [0, 2, 1], [2, 0, 0]]),
+        format!(
+            "Finding: refused 28 3, edge record 3: {meaning}.\n\
+             Edge record 3 is from 0, axis 2, to 1; edge record 2 is from 0, axis 2, to 1.\n\
+             Record 3 repeats record 2: leave it out.\n"
+        )
+    );
+    assert_eq!(
+        said(&[[0, 2, 1], [0, 1, 2]]),
+        format!(
+            "Finding: refused 28 1, edge record 1: {meaning}.\n\
+             Edge record 1 is from 0, axis 1, to 2; edge record 0 is from 0, axis 2, to 1.\n\
+             Record 1 belongs before record 0.\n"
+        )
+    );
+    let belongs = said(&[[0, 0, 0], [1, 0, 0], [1, 0, 2], [2, 0, 0], [1, 0, 1]]);
+    assert!(belongs.ends_with("\nRecord 4 belongs before record 2.\n"), "{belongs}");
+    let repeats = said(&[[0, 0, 0], [1, 0, 0], [1, 0, 2], [2, 0, 0], [1, 0, 0]]);
+    assert!(repeats.ends_with("\nRecord 4 repeats record 1: leave it out.\n"), "{repeats}");
 }
 
 #[test]
@@ -336,7 +364,7 @@ fn next(state: &mut u32) -> usize {
 fn the_finding_explained_is_the_finding_judged() {
     let names = pattern(&[[2, 6, 0, 0], [9, 7, 255, 0], [6, 0, 1, 255], [3, 2, 0, 0]]);
     let patterns = [pattern(&ENTRIES_A), pattern(&ENTRIES_D), pattern(&ENTRIES_H), names];
-    let lists = model(&[plain(0), plain(1)], &[[7, 0], [6, 1]], &[[0, 1, 1]]);
+    let lists = model(&[plain(0), plain(1)], &[[7, 0], [6, 1]], &[[0, 1, 1], [0, 3, 0], [1, 0, 1]]);
     let proposals = [tableau(0, &STEPS_A), tableau(0, &STEPS_D), model_g(), lists];
     let mut noise = 1;
     for round in 0..8000 {

@@ -5,14 +5,14 @@ mod common;
 use common::*;
 use oracle::model::{parse, where_holds};
 
-/// Nodes 0 to 3: property 0 at 1 and 31 at 3; name 7 is node 2, name 9 node 0; axis 1 from 0 to 1 and 2 (one edge
-/// twice), axis 4 from 2 to 3; channel 2 has values 5, 6, 5, 7.
+/// Nodes 0 to 3: property 0 at 1 and 31 at 3; name 7 is node 2, name 9 node 0; axis 1 from 0 to 1 and 2, axis 4
+/// from 2 to 3; channel 2 has values 5, 6, 5, 7.
 fn sample() -> Vec<u8> {
     let node = |properties, value| (properties, [0, 0, value, 0]);
     model(
         &[node(0, 5), node(1, 6), node(0, 5), node(1 << 31, 7)],
         &[[7, 2], [9, 0]],
-        &[[0, 1, 1], [2, 4, 3], [0, 1, 2], [0, 1, 1]],
+        &[[0, 1, 1], [0, 1, 2], [2, 4, 3]],
     )
 }
 

@@ -1,4 +1,4 @@
-//! Judging a model: refusals 9 to 14 and 27, the limits, and the working area.
+//! Judging a model: refusals 9 to 14, 27 and 28, the limits, and the working area.
 
 mod common;
 
@@ -37,17 +37,22 @@ fn header() {
     assert_eq!(model_line(&anywhere(), &[&small()[..], &[0]].concat()), "refused 12 0");
 }
 
+/// So many edges of 64 nodes, the first ones in order.
+fn rising(edges: usize) -> Vec<[u8; 3]> {
+    (0..edges).map(|edge| [edge / 512, edge / 64 % 8, edge % 64].map(|field| field as u8)).collect()
+}
+
 #[test]
 fn limits_exact_and_one_over() {
     let names: Vec<[u8; 2]> = (0..129).map(|name| [name, 0]).collect();
     let sized = |nodes, names: &[[u8; 2]], edges| {
-        model_line(&anywhere(), &model(&vec![plain(0); nodes], names, &vec![[0, 0, 0]; edges]))
+        model_line(&anywhere(), &model(&vec![plain(0); nodes], names, &rising(edges)))
     };
     assert_eq!(sized(64, &names[..128], 4096), "met 0 64");
     assert_eq!(sized(0, &[], 0), "refused 12 0");
     assert_eq!(sized(65, &[], 0), "refused 12 0");
     assert_eq!(sized(1, &names, 0), "refused 12 0");
-    assert_eq!(sized(1, &[], 4097), "refused 12 0");
+    assert_eq!(sized(64, &[], 4097), "refused 12 0");
 }
 
 #[test]
@@ -60,7 +65,7 @@ fn records() {
     assert_eq!(with(&[[9, 1], [0, 0], [9, 1]], &[]), "refused 13 2");
     assert_eq!(with(&[], &[[0, 0, 1], [2, 0, 1]]), "refused 14 1");
     assert_eq!(with(&[], &[[0, 8, 1]]), "refused 14 0");
-    assert_eq!(with(&[], &[[0, 0, 1], [0, 0, 1], [0, 0, 2]]), "refused 14 2");
+    assert_eq!(with(&[], &[[0, 0, 0], [0, 0, 1], [0, 0, 2]]), "refused 14 2");
     assert_eq!(with(&[[0, 0], [0, 0]], &[[9, 9, 9]]), "refused 13 1", "all names before any edge");
 }
 
@@ -155,6 +160,78 @@ fn all_edges_before_any_name_of_the_pattern() {
     assert_eq!(with(&[[40, 2]], &[]), "refused 13 0");
 }
 
+/// The line for a model of three nodes with these edges.
+fn edges_line(edges: &[[u8; 3]]) -> String {
+    model_line(&anywhere(), &model(&[plain(0); 3], &[], edges))
+}
+
+#[test]
+fn edges_rise_by_from_then_axis_then_to() {
+    let number = |[from, axis, to]: [u8; 3]| u32::from(from) * 10_000 + u32::from(axis) * 100 + u32::from(to);
+    let fields = |values: [u8; 3]| values.map(|value| value % 3);
+    let edges = || (0..27).map(|edge| fields([edge / 9, edge / 3, edge]));
+    for before in edges() {
+        for edge in edges() {
+            let line = if number(before) < number(edge) { "met 0 3" } else { "refused 28 1" };
+            assert_eq!(edges_line(&[before, edge]), line, "{before:?}, {edge:?}");
+        }
+    }
+    assert_eq!(edges_line(&[[0, 7, 2], [1, 0, 0], [1, 1, 2], [1, 2, 0], [1, 2, 1]]), "met 0 3");
+    assert_eq!(edges_line(&[[1, 2, 0], [1, 1, 2]]), "refused 28 1", "rises by from, to, axis");
+    assert_eq!(edges_line(&[[1, 7, 0], [0, 7, 1]]), "refused 28 1", "rises by to, axis, from");
+}
+
+#[test]
+fn an_edge_comes_after_the_one_before_it() {
+    assert_eq!(edges_line(&[[0, 0, 0], [0, 0, 2], [0, 0, 1]]), "refused 28 2", "though after record 0");
+    assert_eq!(edges_line(&[[0, 0, 0], [0, 0, 1], [0, 0, 0]]), "refused 28 2", "a repeat of another");
+    assert_eq!(edges_line(&[[0, 0, 1], [0, 0, 1], [0, 0, 1]]), "refused 28 1", "the first of two");
+    assert_eq!(edges_line(&[[0, 0, 1], [0, 0, 0], [0, 0, 2]]), "refused 28 1", "though the next rises");
+    assert_eq!(edges_line(&[[2, 7, 2], [1, 0, 0]]), "refused 28 1");
+}
+
+#[test]
+fn edge_record_0_has_none_before_it() {
+    assert_eq!(edges_line(&[]), "met 0 3");
+    assert_eq!(edges_line(&[[0, 0, 0]]), "met 0 3");
+    assert_eq!(edges_line(&[[2, 7, 2]]), "met 0 3");
+    let named = |edges: &[[u8; 3]]| model(&[plain(0); 3], &[[2, 2], [1, 2]], edges);
+    assert_eq!(model_line(&anywhere(), &named(&[[0, 0, 0]])), "met 0 3", "nor a name record");
+}
+
+#[test]
+fn range_and_order_of_edges_record_by_record() {
+    assert_eq!(edges_line(&[[0, 0, 1], [0, 0, 0], [0, 8, 0]]), "refused 28 1", "before a later 14");
+    assert_eq!(edges_line(&[[0, 0, 1], [0, 0, 1], [3, 9, 3]]), "refused 28 1");
+    assert_eq!(edges_line(&[[0, 0, 1], [0, 0, 3], [0, 0, 0]]), "refused 14 1", "after an earlier 14");
+    assert_eq!(edges_line(&[[3, 0, 0], [0, 0, 0]]), "refused 14 0");
+    assert_eq!(edges_line(&[[1, 0, 0], [0, 8, 0]]), "refused 14 1", "14 first in one record");
+    assert_eq!(edges_line(&[[1, 0, 0], [0, 0, 3]]), "refused 14 1");
+    assert_eq!(edges_line(&[[0, 1, 0], [0, 0, 255]]), "refused 14 1");
+}
+
+#[test]
+fn all_edges_rise_before_any_name_of_the_pattern() {
+    let with = |names: &[[u8; 2]], edges: &[[u8; 3]]| {
+        model_line(&names_unreached(), &model(&[plain(1), plain(2)], names, edges))
+    };
+    assert_eq!(with(&[], &[[0, 0, 0], [0, 0, 1], [0, 0, 1]]), "refused 28 2");
+    assert_eq!(with(&[], &[[0, 0, 0], [0, 0, 1], [1, 0, 0]]), "refused 27 4");
+    assert_eq!(with(&[[4, 0], [4, 0]], &[[0, 0, 1], [0, 0, 1]]), "refused 13 1", "names' records first");
+}
+
+#[test]
+fn every_edge_of_4096_is_compared() {
+    let of_edges = |edges: &[[u8; 3]]| model_line(&anywhere(), &model(&[plain(0); 64], &[], edges));
+    let edges = rising(4096);
+    assert_eq!(of_edges(&edges), "met 0 64");
+    for place in [1, 2, 63, 64, 255, 256, 257, 511, 512, 4094, 4095] {
+        let mut repeated = edges.clone();
+        repeated[place] = repeated[place - 1];
+        assert_eq!(of_edges(&repeated), format!("refused 28 {place}"));
+    }
+}
+
 #[test]
 fn order_and_area() {
     let good = small();
@@ -166,6 +243,10 @@ fn order_and_area() {
     check(&anywhere(), &good, 2039, "refused 9 0", 0);
     check(&anywhere(), &[], 2040, "refused 10 0", 0);
     check(&anywhere(), &replaced(3, 2), 3000, "refused 11 0", 0);
+    let repeated = model(&[plain(1), plain(2)], &[], &[[0, 0, 1], [0, 0, 1]]);
+    check(&anywhere(), &repeated, 2039, "refused 9 0", 0);
+    check(&anywhere(), &repeated, 2040, "refused 28 1", 0);
+    check(&names_unreached(), &repeated, 9000, "refused 28 1", 0);
     check(&names_unreached(), &listing(&[4]), 2039, "refused 9 0", 0);
     check(&names_unreached(), &listing(&[4]), 2040, "refused 27 40", 0);
     check(&names_unreached(), &listing(&[4]), 9000, "refused 27 40", 0);

@@ -176,6 +176,50 @@ fn every_name_of_the_pattern_is_in_a_planned_model() {
     }
 }
 
+/// Asks for successors on the axes in this order, of the node and of each of three names.
+fn leading_by(axes: &[u8]) -> Pattern {
+    let mut b = Builder::default();
+    let mut demands = Vec::new();
+    for name in 0..3 {
+        let here = b.jump(name, END);
+        for &axis in axes {
+            let property = b.property(axis);
+            let leads = b.after(axis, property);
+            let tested = b.test(leads, END);
+            let there = b.jump(name, tested);
+            demands.extend([leads, b.same(0, here, there)]);
+        }
+    }
+    let root = b.all(&demands);
+    b.finish(root).expect("few entries")
+}
+
+/// A repeat or an edge out of order would be refused. With 128 names the model is guessed.
+#[test]
+fn edges_of_a_planned_model_rise() {
+    for pattern in [leading_by(&[5, 2, 7, 0]), all_names(&[6, 0, 3])] {
+        check_plans(&pattern, true);
+        for seed in 0..SEEDS {
+            let edges = meet(&pattern, effort(seed)).expect("a model").edges;
+            assert!(edges.is_sorted_by(|one, next| one < next), "seed {seed}: {edges:?}");
+            let axes: BTreeSet<u8> = edges.iter().map(|edge| edge.1).collect();
+            assert!(axes.len() > 1, "seed {seed}: {edges:?}");
+        }
+    }
+}
+
+/// A pattern that uses every name and asks for a successor on each of the axes.
+fn all_names(axes: &[u8]) -> Pattern {
+    let mut b = Builder::default();
+    (0..128).for_each(|name| {
+        b.name(name);
+    });
+    let property = b.property(0);
+    let demands: Vec<usize> = axes.iter().map(|&axis| b.after(axis, property)).collect();
+    let root = b.all(&demands);
+    b.finish(root).expect("some 140 entries")
+}
+
 /// 128 names are used, so that no name is left to start with; the model is guessed.
 #[test]
 fn pattern_with_all_names_is_met() {

@@ -3,6 +3,7 @@
 
 mod faults;
 
+use faults::edges::{self, Edges, unordered};
 use faults::fresh::{RIGHT, SEARCHES, SETS};
 use faults::model::{MISREADINGS, misread};
 use faults::names::{MISTAKES, mistaken, names_before_edges};
@@ -102,6 +103,7 @@ fn everything_occurs_and_what_never_does_is_named() {
     assert_eq!(missing(|tally| tally.refused[1][14].times = 0), ["refusal 14 of judging a model"]);
     assert_eq!(missing(|tally| tally.refused[1][27].times = 0), ["refusal 27 of judging a model"]);
     assert_eq!(missing(|tally| assert!(tally.names[0].remove(&77))), ["name 77 refused 27"]);
+    assert_eq!(missing(|tally| tally.refused[1][28].times = 0), ["refusal 28 of judging a model"]);
     assert_eq!(missing(|tally| tally.refused[2][24].times = 0), ["refusal 24 of judging a tableau"]);
     assert_eq!(missing(|tally| tally.rules[20].closed = 0), ["rule 20 in a closed tableau"]);
     assert_eq!(missing(|tally| tally.rules[3].refused[1] = 0), ["a step with rule 3 refused 21"]);
@@ -114,6 +116,10 @@ fn everything_occurs_and_what_never_does_is_named() {
     assert_eq!(
         missing(|tally| assert!(tally.limits.remove("met, names used").is_some())),
         ["names: met, names used"]
+    );
+    assert_eq!(
+        missing(|tally| assert!(tally.limits.remove("edge record 1 refused 28").is_some())),
+        ["edges: edge record 1 refused 28"]
     );
     assert_eq!(
         missing(|tally| assert!(tally.limits.remove("name by itself refused 22").is_some())),
@@ -243,28 +249,44 @@ fn mistakes_about_the_names_to_be_listed_are_seen() {
 }
 
 #[test]
-fn names_looked_at_before_edges_are_seen() {
-    let what = seen(&names_before_edges);
-    let expected = |finding: Finding| finding.to_string().starts_with("refused 14 ");
+fn mistakes_about_the_order_of_edges_are_seen() {
+    for (words, refuses) in edges::MISTAKES {
+        is_seen_among(words, &|operation, lent| unordered(refuses, operation, lent));
+    }
+}
+
+/// Asserts that a fault is seen where a refusal of this number is expected.
+fn is_seen_at(number: u16, fault: &(dyn Fn(Operation, Lent) -> Finding + Sync)) {
+    let what = seen(fault);
+    let expected = |finding: Finding| finding.to_string().starts_with(&format!("refused {number} "));
     assert!(matches!(what, What::Finding { expected: finding, .. } if expected(finding)), "{what:?}");
 }
 
 #[test]
-fn an_area_cleared_by_refusal_27_is_seen() {
-    let what = seen(&|operation, Lent { pattern, proposal, area }| {
-        let finding = run_oracle(operation, Lent { pattern, proposal, area: &mut *area });
-        if finding.to_string().starts_with("refused 27 ") {
-            area[..2040].fill(0);
-        }
-        finding
-    });
-    assert!(matches!(what, What::Area { at: 0, found: 0, .. }), "{what:?}");
+fn names_looked_at_before_edges_are_seen() {
+    is_seen_at(14, &names_before_edges::<14>);
+    is_seen_at(28, &names_before_edges::<28>);
+}
+
+#[test]
+fn an_area_cleared_by_refusal_27_or_28_is_seen() {
+    for refused in ["refused 27 ", "refused 28 "] {
+        let what = seen(&|operation, Lent { pattern, proposal, area }| {
+            let finding = run_oracle(operation, Lent { pattern, proposal, area: &mut *area });
+            if finding.to_string().starts_with(refused) {
+                area[..2040].fill(0);
+            }
+            finding
+        });
+        assert!(matches!(what, What::Area { at: 0, found: 0, .. }), "{what:?}");
+    }
 }
 
 #[test]
 fn the_planted_judges_are_right_without_a_fault() {
     let lowest = |pattern: &_, model: &_| check_names(pattern, model).err().map(|refusal| refusal.place);
     assert!(planted(&|operation, lent| mistaken(lowest, operation, lent)).is_ok());
+    assert!(planted(&|operation, lent| unordered(Edges::right, operation, lent)).is_ok());
     assert!(planted(&|operation, lent| NONE.run(operation, lent)).is_ok());
 }
 

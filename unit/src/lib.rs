@@ -63,7 +63,8 @@ pub fn read(pattern: &[u8]) -> Finding {
 }
 
 /// Judges a model of a pattern; `MODEL_AREA` bytes of area are enough. A model must list every name that the
-/// pattern uses: refusal 27 gives the lowest that isn't listed as its place.
+/// pattern uses: refusal 27 gives the lowest that isn't listed as its place. Its edges must rise by from, then
+/// axis, then to, each once: refusal 28 gives the first record that doesn't come after the one before it.
 pub fn judge_model(pattern: &[u8], model: &[u8], area: &mut [u8]) -> Finding {
     // SAFETY: the slices are readable, and the area writable, for their lengths; the area is borrowed
     // for writing and so overlaps neither of the others.

@@ -54,6 +54,30 @@ fn a_name_of_the_pattern_that_is_not_listed_is_refused() {
     assert_eq!(area, [0; MODEL_AREA]);
 }
 
+/// The refusal's place is the later record, and the area stays as it was.
+#[test]
+fn edges_that_do_not_rise_are_refused() {
+    let pattern = b"PAT\x01\x00\x01\x01\x00\x00\x00";
+    let model = |edges: &[[u8; 3]]| {
+        let header = [b'D', b'A', b'T', 1, 0, 2, 0, edges.len() as u8, 0];
+        [&header[..], &[1; 24], edges.as_flattened()].concat()
+    };
+    let rising = [[0, 0, 0], [0, 0, 1], [0, 1, 0], [1, 0, 0]];
+    let mut area = [7; MODEL_AREA];
+    for place in 1..rising.len() {
+        for earlier in rising[..place].iter().copied() {
+            let mut edges = rising;
+            edges[place] = earlier;
+            let finding = unit::judge_model(pattern, &model(&edges), &mut area);
+            assert_eq!(finding, Finding::Refused { number: 28, place: place as u16 });
+            assert_eq!(area, [7; MODEL_AREA]);
+        }
+    }
+    let finding = unit::judge_model(pattern, &model(&rising), &mut area);
+    assert_eq!(finding, Finding::Met { lowest: 0, number: 2 });
+    assert_eq!(area, [0; MODEL_AREA]);
+}
+
 #[test]
 fn a_short_area_is_refused_and_kept() {
     let reading_h = Path::new(env!("CARGO_MANIFEST_DIR")).join("../crates/readings/data/reading_h");

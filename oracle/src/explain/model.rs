@@ -6,7 +6,6 @@ use super::wording::{count, counts, joined};
 use crate::finding::Finding;
 use crate::model::{Model, check_names, finding, parse, where_holds};
 use crate::pattern::{MAX_AXIS, MAX_NAME, MAX_PROPERTY, Pattern};
-use std::collections::BTreeSet;
 
 pub fn explain(pattern: &Pattern, formula: &Formula, bytes: &[u8]) -> String {
     let model = match parse(bytes) {
@@ -49,12 +48,12 @@ fn names_of(model: &Model, node: usize) -> Option<String> {
     (!text.is_empty()).then(|| format!("named {text}"))
 }
 
-/// The node's successors by axis, each once.
+/// The node's successors by axis.
 fn edges(model: &Model, node: usize) -> Option<String> {
     let on_axis = |axis: u8| {
         let edges = model.edges.iter().filter(|edge| edge.0 as usize == node && edge.1 == axis);
-        let ends: BTreeSet<u8> = edges.map(|edge| edge.2).collect();
-        (!ends.is_empty()).then(|| format!("a{axis} to {}", joined(ends.iter().map(u8::to_string))))
+        let ends = joined(edges.map(|edge| edge.2.to_string()));
+        (!ends.is_empty()).then(|| format!("a{axis} to {ends}"))
     };
     let axes: Vec<String> = (0..=MAX_AXIS).filter_map(on_axis).collect();
     (!axes.is_empty()).then(|| axes.join("; "))

@@ -1,6 +1,6 @@
-//! The model file: refusals 10 to 14, and writing one.
+//! The model file: refusals 10 to 14 and 28, and writing one.
 
-use super::{Model, Node};
+use super::{Edge, Model, Node};
 use crate::bytes::{FORMAT_VERSION, u16_at};
 use crate::finding::Refusal;
 use crate::pattern::{MAX_AXIS, MAX_NAME};
@@ -15,7 +15,7 @@ pub(crate) const NODE_BYTES: usize = 12;
 pub(crate) const NAME_BYTES: usize = 2;
 pub(crate) const EDGE_BYTES: usize = 3;
 
-/// Refusals 10 to 14, or the model.
+/// Refusals 10 to 14 and 28, or the model.
 pub fn parse(bytes: &[u8]) -> Result<Model, Refusal> {
     if bytes.len() < HEADER_BYTES || !bytes.starts_with(MARK) {
         return Err(Refusal { number: 10, place: 0 });
@@ -58,13 +58,18 @@ fn parse_names(records: &[u8], nodes: usize) -> Result<Vec<(u8, u8)>, Refusal> {
     Ok(names)
 }
 
-/// "14, place the edge record: field out of range."
-fn parse_edges(records: &[u8], nodes: usize) -> Result<Vec<(u8, u8, u8)>, Refusal> {
-    let mut edges = Vec::with_capacity(records.len() / EDGE_BYTES);
+/// "14, place the edge record: field out of range", and of Job 3: "28, in each edge record after its 14 check, when
+/// it doesn't come after the record before it, place that record".
+fn parse_edges(records: &[u8], nodes: usize) -> Result<Vec<Edge>, Refusal> {
+    let mut edges: Vec<Edge> = Vec::with_capacity(records.len() / EDGE_BYTES);
     for record in records.chunks_exact(EDGE_BYTES) {
         let (from, axis, to) = (record[0], record[1], record[2]);
+        let place = edges.len() as u16;
         if from as usize >= nodes || axis > MAX_AXIS || to as usize >= nodes {
-            return Err(Refusal { number: 14, place: edges.len() as u16 });
+            return Err(Refusal { number: 14, place });
+        }
+        if edges.last().is_some_and(|before| (from, axis, to) <= *before) {
+            return Err(Refusal { number: 28, place });
         }
         edges.push((from, axis, to));
     }

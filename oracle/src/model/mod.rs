@@ -20,9 +20,12 @@ pub struct Model {
     pub nodes: Vec<Node>,
     /// Name records in file order: (name, node).
     pub names: Vec<(u8, u8)>,
-    /// Edge records in file order: (from, axis, to).
-    pub edges: Vec<(u8, u8, u8)>,
+    /// Edge records in file order.
+    pub edges: Vec<Edge>,
 }
+
+/// (from, axis, to). Edges compare as Job 3 has it: "by from, then axis, then to, compared as numbers".
+pub type Edge = (u8, u8, u8);
 
 #[derive(Clone, Copy, Debug, PartialEq, Eq, Default)]
 pub struct Node {
@@ -30,7 +33,7 @@ pub struct Node {
     pub values: [u16; 4],
 }
 
-/// Judging a model as document 01 and Job 1 state it, with what it does to the working area.
+/// Judging a model as document 01 and Jobs 1 and 3 state it, with what it does to the working area.
 pub fn judge(pattern: &[u8], model: &[u8], area: &mut [u8]) -> Finding {
     match admit(pattern, model, area.len()) {
         Ok((pattern, model)) => {
@@ -41,7 +44,7 @@ pub fn judge(pattern: &[u8], model: &[u8], area: &mut [u8]) -> Finding {
     }
 }
 
-/// Refusals 1 to 14 and 27 in their order: the pattern, the area, the model, the pattern's names in it.
+/// Refusals 1 to 14, 28 and 27 in their order: the pattern, the area, the model, the pattern's names in it.
 fn admit(pattern: &[u8], model: &[u8], area: usize) -> Result<(Pattern, Model), Refusal> {
     let pattern = pattern::parse(pattern)?;
     if area < AREA {
@@ -52,7 +55,8 @@ fn admit(pattern: &[u8], model: &[u8], area: usize) -> Result<(Pattern, Model), 
     Ok((pattern, model))
 }
 
-/// Job 1: "27, after every 14 check, when the model doesn't list a name of the pattern, place the lowest such name."
+/// Job 1: "27, after every 14 check, when the model doesn't list a name of the pattern, place the lowest such
+/// name"; Job 3: "27 follows all edge records."
 pub fn check_names(pattern: &Pattern, model: &Model) -> Result<(), Refusal> {
     match pattern.names().into_iter().find(|&name| !model.lists(name)) {
         Some(name) => Err(Refusal { number: 27, place: name.into() }),

@@ -26,7 +26,8 @@ fn leads_by(pattern: &Pattern, axis: u8) -> bool {
     pattern.entries.iter().any(leads)
 }
 
-/// Few nodes and few different values, so that much is the same; just the pattern's names; edges on its axes only.
+/// Few nodes and few different values, so that much is the same; just the pattern's names; edges on its axes only,
+/// rising as the axes do.
 fn any_model(pattern: &Pattern, axes: &[u8], random: &mut Random) -> Model {
     let count = 1 + random.below(MOST_NODES);
     let mut node = || Node {
@@ -36,13 +37,8 @@ fn any_model(pattern: &Pattern, axes: &[u8], random: &mut Random) -> Model {
     let nodes: Vec<Node> = (0..count).map(|_| node()).collect();
     let names = pattern.names().into_iter().map(|name| (name, random.below(count) as u8)).collect();
     let sparseness = 1 + random.below(4);
-    let mut edges = Vec::new();
-    for &axis in axes {
-        for (from, to) in (0..count * count).map(|pair| (pair / count, pair % count)) {
-            if random.once_in(sparseness) {
-                edges.push((from as u8, axis, to as u8));
-            }
-        }
-    }
+    let on_axis = |from, axis| (0..count).map(move |to| (from as u8, axis, to as u8));
+    let from_node = |from| axes.iter().flat_map(move |&axis| on_axis(from, axis));
+    let edges = (0..count).flat_map(from_node).filter(|_| random.once_in(sparseness)).collect();
     Model { nodes, names, edges }
 }

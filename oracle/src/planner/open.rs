@@ -2,9 +2,10 @@
 
 use super::branch::Branch;
 use super::shape::names;
-use crate::model::{MAX_EDGES, MAX_NODES, Model, Node};
+use crate::model::{Edge, MAX_EDGES, MAX_NODES, Model, Node};
 use crate::pattern::Entry;
 use crate::tableau::line::Line;
+use std::collections::BTreeSet;
 
 impl Branch<'_> {
     /// The kept names as nodes, with the edges, properties and values that the lines tell. Every name of the
@@ -45,17 +46,16 @@ impl Branch<'_> {
         }
     }
 
-    /// The axis lines between nodes, each once.
-    fn edges(&self, node_of: impl Fn(u8) -> Option<usize>) -> Vec<(u8, u8, u8)> {
-        let mut edges = Vec::new();
+    /// The axis lines between nodes, each once and rising.
+    fn edges(&self, node_of: impl Fn(u8) -> Option<usize>) -> Vec<Edge> {
+        let mut edges = BTreeSet::new();
         for line in &self.lines {
             if let Line::Edge { axis, from, to } = *line
                 && let (Some(from), Some(to)) = (node_of(from), node_of(to))
-                && !edges.contains(&(from as u8, axis, to as u8))
             {
-                edges.push((from as u8, axis, to as u8));
+                edges.insert((from as u8, axis, to as u8));
             }
         }
-        edges
+        edges.into_iter().collect()
     }
 }

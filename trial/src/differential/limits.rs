@@ -48,7 +48,7 @@ pub const LIMITS: [Limit; 53] = [
     ("name 128 refused 13", |it| it.name_refused().is_some_and(|name| name[0] == 128)),
     ("name of the last node listed", |it| it.found() && it.names().any(|name| name[1] + 1 == it.nodes())),
     ("name of a node one over refused 13", |it| it.name_refused().is_some_and(|name| name[1] == it.nodes())),
-    ("edge on axis 7 judged", |it| it.found() && it.edges().any(|edge| edge[1] == 7)),
+    ("edge on axis 7 judged", |it| it.found() && it.edges().iter().any(|edge| edge[1] == 7)),
     ("edge on axis 8 refused 14", |it| it.edge_refused().is_some_and(|edge| edge[1] == 8)),
     ("edge from a node one over refused 14", |it| {
         it.edge_refused().is_some_and(|edge| edge[0] == it.nodes())
@@ -141,7 +141,7 @@ impl<'a> Judged<'a> {
         self.refused(17) && self.input.proposal.len() == length()
     }
 
-    fn nodes(&self) -> u8 {
+    pub(super) fn nodes(&self) -> u8 {
         self.input.proposal[5]
     }
 
@@ -150,9 +150,9 @@ impl<'a> Judged<'a> {
         self.input.proposal[first..][..2 * self.input.proposal[6] as usize].chunks_exact(2)
     }
 
-    fn edges(&self) -> std::slice::ChunksExact<'a, u8> {
+    pub(super) fn edges(&self) -> &'a [[u8; 3]] {
         let first = 9 + 12 * self.nodes() as usize + 2 * self.input.proposal[6] as usize;
-        self.input.proposal[first..].chunks_exact(3)
+        self.input.proposal[first..].as_chunks().0
     }
 
     fn steps(&self) -> std::slice::ChunksExact<'a, u8> {
@@ -163,8 +163,8 @@ impl<'a> Judged<'a> {
         self.place(13).and_then(|place| self.names().nth(place))
     }
 
-    fn edge_refused(&self) -> Option<&'a [u8]> {
-        self.place(14).and_then(|place| self.edges().nth(place))
+    fn edge_refused(&self) -> Option<&'a [u8; 3]> {
+        self.place(14).map(|place| &self.edges()[place])
     }
 
     /// The step that was refused with this number.

@@ -1,6 +1,7 @@
 //! What a run must see: every finding, refusal, rule, limit and kind of input, and each name refused in every
 //! way.
 
+use super::edges::EDGES;
 use super::fresh::FRESH;
 use super::limits::LIMITS;
 use super::names::{EACH_NAME, NAMES};
@@ -31,6 +32,7 @@ impl Tally {
         self.add_rules(&mut seen);
         seen.extend(LIMITS.map(|(limit, _)| (self.shown(limit), format!("limit: {limit}"))));
         seen.extend(NAMES.map(|(names, _)| (self.shown(names), format!("names: {names}"))));
+        seen.extend(EDGES.map(|(edges, _)| (self.shown(edges), format!("edges: {edges}"))));
         seen.extend(FRESH.map(|(fresh, _)| (self.shown(fresh), format!("fresh names: {fresh}"))));
         seen.extend(SHARED.map(|(shared, _)| (self.shown(shared), format!("slots: {shared}"))));
         for (names, (what, _)) in self.names.iter().zip(EACH_NAME) {
@@ -66,7 +68,7 @@ impl Tally {
 pub fn refusals(operation: Operation) -> Chain<RangeInclusive<usize>, RangeInclusive<usize>> {
     match operation {
         Operation::Reading => (1..=7).chain(8..=8),
-        Operation::Model => (1..=14).chain(27..=27),
+        Operation::Model => (1..=14).chain(27..=28),
         Operation::Tableau => (1..=9).chain(15..=26),
     }
 }

@@ -54,7 +54,7 @@ impl Judged<'_> {
         self.names().filter(|record| record[0] < 128).fold(0, |names, record| names | 1 << record[0])
     }
 
-    fn missing(&self) -> u128 {
+    pub(super) fn missing(&self) -> u128 {
         self.used() & !self.listed()
     }
 

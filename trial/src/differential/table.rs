@@ -1,5 +1,6 @@
 //! The table that a run prints of its tally.
 
+use super::edges::EDGES;
 use super::fresh::FRESH;
 use super::limits::{LIMITS, Limit};
 use super::missing::{refusals, words};
@@ -30,6 +31,7 @@ impl fmt::Display for Tally {
         }
         self.write_shown(f, "limits", &LIMITS)?;
         self.write_shown(f, "names that the pattern uses and those that the model lists", &NAMES)?;
+        self.write_shown(f, "edge records and the records before them", &EDGES)?;
         self.write_shown(f, "start names and fresh names", &FRESH)?;
         self.write_shown(f, "entries that share a slot, and repeats", &SHARED)?;
         self.write_each_name(f)?;

@@ -1,5 +1,6 @@
 //! What occurred in a run: findings, refusals, rules and kinds of input.
 
+use super::edges::EDGES;
 use super::fresh::FRESH;
 use super::limits::{Judged, LIMITS};
 use super::names::{EACH_NAME, NAMES};
@@ -11,7 +12,7 @@ use std::collections::{BTreeMap, BTreeSet, HashSet};
 use std::hash::{DefaultHasher, Hash, Hasher};
 
 /// The largest refusal number and the largest rule number.
-const REFUSALS: usize = 27;
+const REFUSALS: usize = 28;
 const RULES: usize = 23;
 
 /// How many lengths of short files are counted: 0 to 10 bytes.
@@ -44,7 +45,7 @@ pub struct Tally {
     /// Refusals by operation and number.
     pub refused: [[Refused; REFUSALS + 1]; Operation::ALL.len()],
     pub rules: [RuleUse; RULES + 1],
-    /// Inputs that show a limit or something of names, by its words; none for what no input shows.
+    /// Inputs that show a limit or another situation, by its words; none for what no input shows.
     pub limits: BTreeMap<&'static str, u64>,
     /// The names that showed what each must show.
     pub names: [BTreeSet<usize>; EACH_NAME.len()],
@@ -64,7 +65,7 @@ impl Tally {
         self.inputs += 1;
         self.kinds[input.kind as usize] += 1;
         let judged = Judged::new(input, finding);
-        let situations = LIMITS.iter().chain(&NAMES).chain(&FRESH).chain(&SHARED);
+        let situations = LIMITS.iter().chain(&NAMES).chain(&EDGES).chain(&FRESH).chain(&SHARED);
         for (limit, _) in situations.filter(|(_, shows)| shows(&judged)) {
             *self.limits.entry(limit).or_default() += 1;
         }
@@ -155,7 +156,7 @@ impl Tally {
         self.distinct.extend(&other.distinct);
     }
 
-    /// How many inputs show the limit or the situation of names.
+    /// How many inputs show the limit or the situation.
     pub fn shown(&self, limit: &str) -> u64 {
         self.limits.get(limit).copied().unwrap_or_default()
     }

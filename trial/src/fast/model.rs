@@ -1,4 +1,4 @@
-//! Judging a model: refusals 9 to 14 and 27, then where the root holds.
+//! Judging a model: refusals 9 to 14, 28 and 27, then where the root holds.
 
 use super::evaluate::{Holds, root_nodes};
 use super::{body, pattern, refused};
@@ -16,7 +16,7 @@ pub struct Model<'a> {
     predecessors: [[u64; 64]; 8],
 }
 
-/// The set of nodes where the root holds, or refusals 1 to 14 and 27.
+/// The set of nodes where the root holds, or refusals 1 to 14, 28 and 27.
 pub fn judge(bytes: &[u8], model: &[u8], area: &mut [u8]) -> Result<u64, Refusal> {
     let entries = pattern::parse(bytes)?;
     let (holds, _) = area.as_chunks_mut::<8>();
@@ -71,11 +71,19 @@ impl Model<'_> {
 
     fn add_edges(&mut self, edges: &[[u8; 3]]) -> Result<(), Refusal> {
         let nodes = self.records.len() as u8;
+        let predecessors = self.predecessors.as_flattened_mut();
+        // The least that the next record may be, as a number of from, axis and to, the highest bits first.
+        let mut least = 0;
         for (place, &[from, axis, to]) in edges.iter().enumerate() {
             if from >= nodes || axis > 7 || to >= nodes {
                 return Err(Refusal { number: 14, place: place as u16 });
             }
-            self.predecessors[axis as usize][to as usize % 64] |= 1 << (from % 64);
+            let record = (from as usize) << 9 | (axis as usize) << 6 | to as usize;
+            if record < least {
+                return Err(Refusal { number: 28, place: place as u16 });
+            }
+            least = record + 1;
+            predecessors[record % 512] |= 1 << (from % 64);
         }
         Ok(())
     }

@@ -56,6 +56,7 @@ kinds! {
     PatternLimit "a pattern at a limit or one over"
     ValidModel "a valid model"
     MutatedModel "a mutated model"
+    DisorderedModel "a model with edges out of order"
     ModelLimit "a model at a limit or one over"
     PlannedModel "a planned model"
     MutatedPlannedModel "a mutated planned model"

@@ -3,8 +3,8 @@
 //! `recipes` makes an input of each kind, of these parts: `patterns` and `crowd` make random patterns, `slots`
 //! those whose entries share slots, `models` random models, `walk` random tableaux; `corpus` keeps what the
 //! planner found for them and for patterns that can't occur, which `contradiction` and `composition` make.
-//! `rename`, `asked` and `mutate` change files, and `limits` writes those at document 01's limits. `area` is
-//! the working area.
+//! `rename`, `asked`, `disorder` and `mutate` change files, and `limits` writes those at document 01's limits.
+//! `area` is the working area.
 
 pub mod area;
 mod asked;
@@ -12,6 +12,7 @@ mod composition;
 mod contradiction;
 mod corpus;
 mod crowd;
+mod disorder;
 pub mod input;
 mod limits;
 mod models;

@@ -1,7 +1,7 @@
 //! Random models that judging accepts, but for a name of the pattern that some of them lack.
 
 use super::patterns::Vocabulary;
-use oracle::model::{Model, Node};
+use oracle::model::{Edge, Model, Node};
 use oracle::pattern::Pattern;
 use oracle::random::Random;
 
@@ -16,7 +16,7 @@ pub fn random(random: &mut Random, pattern: &Pattern) -> Model {
     Model {
         nodes: (0..nodes).map(|_| node(random)).collect(),
         names: names(random, pattern, vocabulary, nodes),
-        edges: (0..edges).map(|_| edge(random, vocabulary, nodes)).collect(),
+        edges: rising((0..edges).map(|_| edge(random, vocabulary, nodes))),
     }
 }
 
@@ -50,6 +50,14 @@ fn names(random: &mut Random, pattern: &Pattern, vocabulary: Vocabulary, nodes: 
     names.into_iter().map(|name| (name, random.below(nodes) as u8)).collect()
 }
 
-fn edge(random: &mut Random, vocabulary: Vocabulary, nodes: usize) -> (u8, u8, u8) {
+/// The edges in their order, each once.
+fn rising(edges: impl Iterator<Item = Edge>) -> Vec<Edge> {
+    let mut edges: Vec<Edge> = edges.collect();
+    edges.sort_unstable();
+    edges.dedup();
+    edges
+}
+
+fn edge(random: &mut Random, vocabulary: Vocabulary, nodes: usize) -> Edge {
     (random.below(nodes) as u8, random.below(vocabulary.axes) as u8, random.below(nodes) as u8)
 }

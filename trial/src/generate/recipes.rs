@@ -3,6 +3,7 @@
 use super::area::Area;
 use super::corpus::{Corpus, Planned};
 use super::crowd::crowded;
+use super::disorder::disorder;
 use super::input::{Input, Kind, Never, Operation};
 use super::mutate::{Sort, mutate};
 use super::rename::Renaming;
@@ -12,20 +13,21 @@ use oracle::pattern::{self, Pattern};
 use oracle::random::Random;
 
 /// How many of a hundred inputs are of each kind.
-const SHARES: [(usize, Kind); 18] = [
+const SHARES: [(usize, Kind); 19] = [
     (4, Kind::ValidPattern),
-    (8, Kind::MutatedPattern),
+    (7, Kind::MutatedPattern),
     (5, Kind::PatternLimit),
     (8, Kind::ValidModel),
     (7, Kind::MutatedModel),
+    (3, Kind::DisorderedModel),
     (4, Kind::ModelLimit),
     (4, Kind::PlannedModel),
     (6, Kind::MutatedPlannedModel),
     (7, Kind::WalkedTableau),
-    (10, Kind::WrongStep),
+    (9, Kind::WrongStep),
     (3, Kind::TableauLimit),
     (5, Kind::PlannedTableau),
-    (8, Kind::MutatedPlannedTableau),
+    (7, Kind::MutatedPlannedTableau),
     (10, Kind::OtherName),
     (2, Kind::Exchanged),
     (2, Kind::Unrelated),
@@ -46,6 +48,7 @@ pub fn make(random: &mut Random, corpus: &Corpus, input: &mut Input) {
             any_operation(random, corpus, input);
         }
         Kind::ValidModel | Kind::MutatedModel => random_model(random, input),
+        Kind::DisorderedModel => disordered_model(random, corpus, input),
         Kind::ModelLimit => {
             let pattern = patterns::random(random);
             input.pattern = pattern.to_bytes();
@@ -124,6 +127,16 @@ fn random_model(random: &mut Random, input: &mut Input) {
     if input.kind == Kind::MutatedModel {
         mutate(random, Sort::Model, &mut input.proposal);
     }
+}
+
+/// A random model with edges out of order, as often as not for a pattern that has a closed tableau.
+fn disordered_model(random: &mut Random, corpus: &Corpus, input: &mut Input) {
+    if random.once_in(2) {
+        model_of_closed(random, corpus, input);
+    } else {
+        random_model(random, input);
+    }
+    disorder(random, &mut input.proposal);
 }
 
 /// Renames in the pattern and in the model: names that are missing are then any of the 128.

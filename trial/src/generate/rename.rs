@@ -47,7 +47,8 @@ impl Renaming {
         }
     }
 
-    /// Renames in a valid model file. A name that the pattern uses is listed afterwards just if it was before.
+    /// Renames in a valid model file, and puts its edges in order again. A name that the pattern uses is listed
+    /// afterwards just if it was before.
     pub fn model(self, file: &mut [u8]) {
         let (nodes, names) = (file[5] as usize, file[6] as usize);
         let (node_records, rest) = file[9..].split_at_mut(12 * nodes);
@@ -58,9 +59,11 @@ impl Renaming {
         for name in name_records.chunks_exact_mut(2) {
             name[0] ^= self.name;
         }
-        for edge in edge_records.chunks_exact_mut(3) {
+        let (edges, _) = edge_records.as_chunks_mut::<3>();
+        for edge in &mut *edges {
             edge[1] ^= self.axis;
         }
+        edges.sort_unstable();
     }
 
     /// Moves the properties and the values of a node record to their new places.

@@ -1,5 +1,6 @@
 //! Judges with a fault planted in them.
 
+pub mod edges;
 pub mod fresh;
 pub mod model;
 pub mod names;

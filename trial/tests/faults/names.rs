@@ -1,5 +1,6 @@
 //! A judge of models that is right but for the names that a model must list.
 
+use super::edges::parted;
 use oracle::finding::{Finding, Refusal};
 use oracle::model::{self, Model};
 use oracle::pattern::{self, Entry, Pattern};
@@ -71,17 +72,14 @@ pub fn mistaken(place: fn(&Pattern, &Model) -> Option<u16>, operation: Operation
     model::finding(&pattern, &model)
 }
 
-/// A judge that looks at the names before it looks at the edges.
-pub fn names_before_edges(operation: Operation, lent: Lent) -> Finding {
-    let (pattern, mut proposal) = (lent.pattern.to_vec(), lent.proposal.to_vec());
+/// A judge that looks at the names before it gives an edge's refusal of this number.
+pub fn names_before_edges<const NUMBER: u16>(operation: Operation, lent: Lent) -> Finding {
+    let (pattern, proposal) = (lent.pattern.to_vec(), lent.proposal.to_vec());
     let finding = run_oracle(operation, lent);
-    if !matches!(finding, Finding::Refused(Refusal { number: 14, .. })) {
+    if !matches!(finding, Finding::Refused(Refusal { number, .. }) if number == NUMBER) {
         return finding;
     }
-    let edges = 3 * u16::from_le_bytes([proposal[7], proposal[8]]) as usize;
-    proposal.truncate(proposal.len() - edges);
-    proposal[7..9].fill(0);
-    match model::judge(&pattern, &proposal, &mut [0; model::AREA]) {
+    match model::judge(&pattern, &parted(&proposal).0, &mut [0; model::AREA]) {
         Finding::Refused(refusal) => Finding::Refused(refusal),
         _ => finding,
     }

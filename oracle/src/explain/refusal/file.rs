@@ -1,4 +1,4 @@
-//! What stands at the place of a refusal of a file: 1 to 8, 10 to 14, 15 to 18.
+//! What stands at the place of a refusal of a file: 1 to 8, 10 to 14, 15 to 18, 28.
 
 use super::sentence;
 use crate::bytes::u16_at;
@@ -45,7 +45,8 @@ pub fn of_model(bytes: &[u8], refusal: Refusal) -> String {
     let detail = match refusal.number {
         12 => lengths(bytes, &counts(nodes, names, edges), edge_records + model::EDGE_BYTES * edges),
         13 => name_record(&bytes[name_records..], refusal.place as usize, nodes),
-        _ => edge_record(&bytes[edge_records..], refusal.place as usize, nodes),
+        14 => edge_record(&bytes[edge_records..], refusal.place as usize, nodes),
+        _ => edge_order(&bytes[edge_records..], refusal.place as usize),
     };
     sentence(refusal, &detail)
 }
@@ -106,11 +107,31 @@ fn name_record(records: &[u8], place: usize, nodes: usize) -> String {
 }
 
 fn edge_record(records: &[u8], place: usize, nodes: usize) -> String {
+    let (fields, last) = (edge_fields(records, place), nodes - 1);
+    format!("The record is {fields}; the last node is {last}, the last axis {MAX_AXIS}.")
+}
+
+/// The record and the one before it, and what is to be done with it: the earlier ones rise, so it repeats one of
+/// them or belongs before one of them.
+fn edge_order(records: &[u8], place: usize) -> String {
+    let record = |number: usize| &records[model::EDGE_BYTES * number..][..model::EDGE_BYTES];
+    let before = place - 1;
+    let text = format!(
+        "Edge record {place} is {}; edge record {before} is {}.",
+        edge_fields(records, place),
+        edge_fields(records, before)
+    );
+    let first = (0..before).find(|&earlier| record(earlier) >= record(place)).unwrap_or(before);
+    if record(first) == record(place) {
+        format!("{text}\nRecord {place} repeats record {first}: leave it out.")
+    } else {
+        format!("{text}\nRecord {place} belongs before record {first}.")
+    }
+}
+
+fn edge_fields(records: &[u8], place: usize) -> String {
     let record = &records[model::EDGE_BYTES * place..];
-    let (from, axis, to, last) = (record[0], record[1], record[2], nodes - 1);
-    format!(
-        "The record is from {from}, axis {axis}, to {to}; the last node is {last}, the last axis {MAX_AXIS}."
-    )
+    format!("from {}, axis {}, to {}", record[0], record[1], record[2])
 }
 
 fn start_name(pattern: &Pattern, start: u8) -> String {

@@ -21,15 +21,16 @@ pub fn refused(refusal: Refusal) -> String {
     let where_at = match number {
         4..=8 => format!(", entry {place}"),
         13 => format!(", name record {place}"),
-        14 => format!(", edge record {place}"),
+        14 | 28 => format!(", edge record {place}"),
         19..=25 => format!(", step {place}"),
+        27 => format!(", name n{place}"),
         _ => String::new(),
     };
     format!("{}{where_at}: {}", Finding::Refused(refusal), MEANINGS[number as usize - 1])
 }
 
-/// By refusal number, from 1 to 26: what document 01 says of it.
-const MEANINGS: [&str; 26] = [
+/// By refusal number, from 1 to 28: what documents 01 and 02 say of it.
+const MEANINGS: [&str; 28] = [
     "the pattern file has under 6 bytes or doesn't begin with PAT",
     "the pattern file's version isn't 1",
     "the number of entries is zero, or the pattern file's length isn't 6 + 4 for each",
@@ -56,4 +57,6 @@ const MEANINGS: [&str; 26] = [
     "it forks while 64 right sides already wait",
     "all branches are already closed",
     "the steps are at an end and a branch is still open",
+    "the pattern uses it and the model doesn't list it (was its meter removed?)",
+    "it doesn't come after the record before it (edges rise by from, then axis, then to, each once)",
 ];

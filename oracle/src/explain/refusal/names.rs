@@ -1,24 +1,21 @@
-//! Refusal 27 in a sentence, with what it points at: the entries that have the name, and the other names that
-//! aren't listed.
+//! What refusal 27 points at: the entries that have the name, and the other names that aren't listed.
 
+use super::sentence;
 use crate::explain::wording::joined;
-use crate::finding::{Finding, Refusal};
+use crate::finding::Refusal;
 use crate::model::Model;
 use crate::pattern::Pattern;
 
 /// The refusal's place is a name that the pattern uses.
 pub fn of_names(pattern: &Pattern, model: &Model, refusal: Refusal) -> String {
     let name = refusal.place as u8;
-    let finding = Finding::Refused(refusal);
-    let removed =
-        format!("Finding: {finding}: name n{name} of the pattern isn't listed: was its meter removed?");
-    let mut text = format!("{removed}\n{}\n", users(pattern, name));
+    let mut detail = users(pattern, name);
     let others = pattern.names().into_iter().filter(|&other| other != name && !model.lists(other));
     let others = joined(others.map(|other| format!("n{other}")));
     if !others.is_empty() {
-        text += &format!("Not listed either: {others}.\n");
+        detail += &format!("\nNot listed either: {others}.");
     }
-    text
+    sentence(refusal, &detail)
 }
 
 /// The entries that have the name, of which there is at least one.

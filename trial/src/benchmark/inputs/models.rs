@@ -2,7 +2,7 @@
 
 use super::patterns;
 use crate::benchmark::case::Case;
-use oracle::model::{Model, Node};
+use oracle::model::{Edge, Model, Node};
 use oracle::pattern::Pattern;
 use oracle::random::Random;
 
@@ -30,7 +30,7 @@ const ONE_VALUE: Size = Size { values: 1, ..COMPLETE };
 const SPARSE: Size = Size { edges: 512, ..LARGE };
 const FEW_VALUES: Size = Size { values: 4, ..LARGE };
 
-/// A model of that size at random; no edge is repeated.
+/// A model of that size at random; its edges rise.
 pub fn random_model(size: Size, seed: u64) -> Model {
     let mut random = Random::new(seed, 1);
     let node = |random: &mut Random| Node {
@@ -41,13 +41,14 @@ pub fn random_model(size: Size, seed: u64) -> Model {
     let names = (0..size.names).map(|name| (name as u8, random.below(size.nodes) as u8)).collect();
     let pairs = size.nodes * size.nodes;
     let mut places: Vec<usize> = (0..pairs * size.axes).collect();
-    let edges = (0..size.edges.min(places.len()))
+    let mut edges: Vec<Edge> = (0..size.edges.min(places.len()))
         .map(|_| {
             let place = places.swap_remove(random.below(places.len()));
             let (axis, pair) = (place / pairs, place % pairs);
             ((pair / size.nodes) as u8, axis as u8, (pair % size.nodes) as u8)
         })
         .collect();
+    edges.sort_unstable();
     Model { nodes, names, edges }
 }
 

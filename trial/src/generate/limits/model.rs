@@ -1,8 +1,10 @@
 //! Models at the limits: short files, counts and records at the ends of their ranges.
 
 use super::{cut_short, misjudge_length, spoil_header};
+use crate::generate::disorder::fall;
 use oracle::pattern::Pattern;
 use oracle::random::Random;
+use std::collections::BTreeSet;
 
 /// Writes a model file at a limit or one over, for the pattern: it lists the pattern's names, if it has so many.
 pub fn model(random: &mut Random, pattern: &Pattern, file: &mut Vec<u8>) {
@@ -18,8 +20,10 @@ pub fn model(random: &mut Random, pattern: &Pattern, file: &mut Vec<u8>) {
         4 => {
             let edges = random.pick(&[4095, 4096, 4096, 4097]);
             counts(random, pattern, file, [64, 128, edges]);
-            if random.once_in(2) {
-                border_record(random, file, [64, 128, edges]);
+            match random.below(4) {
+                0 => border_record(random, file, [64, 128, edges]),
+                1 => fallen_edge(random, file, edges),
+                _ => {}
             }
             misjudge_length(random, file);
         }
@@ -54,16 +58,33 @@ fn counts(random: &mut Random, pattern: &Pattern, file: &mut Vec<u8>, [nodes, na
     for name in in_turn(pattern, down).take(names) {
         file.extend([name, node(random)]);
     }
-    for _ in 0..edges {
-        let (from, axis, to) = (node(random), random.below(8) as u8, node(random));
-        file.extend([from, axis, to]);
+    file.extend(rising(random, nodes, edges).as_flattened());
+}
+
+/// So many edges in their order, each once; if there aren't so many between the nodes, the last is repeated.
+fn rising(random: &mut Random, nodes: usize, edges: usize) -> Vec<[u8; 3]> {
+    let all = 8 * nodes * nodes;
+    let mut chosen = BTreeSet::new();
+    while chosen.len() < edges.min(all) {
+        chosen.insert(random.below(all));
     }
+    let fields = |edge: usize| [edge / nodes / 8, edge / nodes % 8, edge % nodes].map(|field| field as u8);
+    let mut records: Vec<[u8; 3]> = chosen.into_iter().map(fields).collect();
+    records.resize(edges, records.last().copied().unwrap_or_default());
+    records
 }
 
 /// Every name once, the pattern's first, then the others from 0 up or from 127 down; then what is out of range.
 fn in_turn(pattern: &Pattern, down: bool) -> impl Iterator<Item = u8> {
     let others = (0..128).map(move |name| if down { 127 - name } else { name });
     pattern.names().into_iter().chain(others.filter(|&name| !pattern.uses(name))).chain(128..=255)
+}
+
+/// Makes an edge of a model of 64 nodes not come after the one before it, as often as not the last.
+fn fallen_edge(random: &mut Random, file: &mut [u8], edges: usize) {
+    let first = file.len() - 3 * edges;
+    let place = if random.once_in(2) { edges - 1 } else { random.between(1, edges - 1) };
+    fall(random, file[first..].as_chunks_mut().0, 64, place);
 }
 
 /// Sets one field of one name or edge record to the end of its range or one over, or makes a name that
