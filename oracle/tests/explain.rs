@@ -246,7 +246,7 @@ fn edges_that_do_not_rise() {
         format!(
             "Finding: refused 28 3, edge record 3: {meaning}.\n\
              Edge record 3 is from 0, axis 2, to 1; edge record 2 is from 0, axis 2, to 1.\n\
-             Record 3 repeats record 2: leave it out.\n"
+             Edge record 3 repeats record 2: leave it out.\n"
         )
     );
     assert_eq!(
@@ -254,13 +254,16 @@ fn edges_that_do_not_rise() {
         format!(
             "Finding: refused 28 1, edge record 1: {meaning}.\n\
              Edge record 1 is from 0, axis 1, to 2; edge record 0 is from 0, axis 2, to 1.\n\
-             Record 1 belongs before record 0.\n"
+             Edge record 1 comes before record 0.\n"
         )
     );
     let belongs = said(&[[0, 0, 0], [1, 0, 0], [1, 0, 2], [2, 0, 0], [1, 0, 1]]);
-    assert!(belongs.ends_with("\nRecord 4 belongs before record 2.\n"), "{belongs}");
+    assert!(
+        belongs.ends_with("\nEdge record 4 comes before record 3, and belongs before record 2.\n"),
+        "{belongs}"
+    );
     let repeats = said(&[[0, 0, 0], [1, 0, 0], [1, 0, 2], [2, 0, 0], [1, 0, 0]]);
-    assert!(repeats.ends_with("\nRecord 4 repeats record 1: leave it out.\n"), "{repeats}");
+    assert!(repeats.ends_with("\nEdge record 4 repeats record 1: leave it out.\n"), "{repeats}");
 }
 
 #[test]

@@ -116,17 +116,19 @@ fn edge_record(records: &[u8], place: usize, nodes: usize) -> String {
 fn edge_order(records: &[u8], place: usize) -> String {
     let record = |number: usize| &records[model::EDGE_BYTES * number..][..model::EDGE_BYTES];
     let before = place - 1;
-    let text = format!(
-        "Edge record {place} is {}; edge record {before} is {}.",
+    let first = (0..before).find(|&earlier| record(earlier) >= record(place)).unwrap_or(before);
+    let fault = if record(first) == record(place) {
+        format!("repeats record {first}: leave it out")
+    } else if first == before {
+        format!("comes before record {before}")
+    } else {
+        format!("comes before record {before}, and belongs before record {first}")
+    };
+    format!(
+        "Edge record {place} is {}; edge record {before} is {}.\nEdge record {place} {fault}.",
         edge_fields(records, place),
         edge_fields(records, before)
-    );
-    let first = (0..before).find(|&earlier| record(earlier) >= record(place)).unwrap_or(before);
-    if record(first) == record(place) {
-        format!("{text}\nRecord {place} repeats record {first}: leave it out.")
-    } else {
-        format!("{text}\nRecord {place} belongs before record {first}.")
-    }
+    )
 }
 
 fn edge_fields(records: &[u8], place: usize) -> String {
