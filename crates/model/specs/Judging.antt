@@ -10,7 +10,7 @@ use native.Mathlib.Omega.{arith}
 use lib.Dec.{ltb}
 use borrow.Author.Tests.{lt-ltb, le-ltb, ltb-false}
 use Rattle.wire.specs.Cleared.{cleared}
-use Rattle.pattern.specs.Checks.Finding.{Finding, found, refused, Check, passes, refuses, refusesIf, _then_, unless, then-passes, refusesIf-passes, found-passes}
+use Rattle.pattern.specs.Checks.Finding.{Finding, found, refused, Check, passes, refuses, refusesIf, _then_, unless, then-passes, passes-last, refusesIf-passes, found-passes}
 use Rattle.pattern.specs.Checks.Range.{someBelow, some-at, none-at, none-below}
 use Rattle.pattern.specs.File.Types.{maxName}
 use Rattle.pattern.specs.File.Reading.{countOf, patternCheck}
@@ -52,7 +52,7 @@ unfoldable pub namesCheck : List ℕ → List ℕ → Check
 namesCheck bs ds = refusesIf (someBelow (maxName + 1) (isMissing bs ds)) 27 (lowestBelow (maxName + 1) (isMissing bs ds))
 
 -- "Refused 1 to 8 as above. 9: .. 10: .." and on to 14, with 28 of Job 3 behind each 14 where edges must rise, and then 27 ("27 follows all
--- edge records."), for files whose edges stand in that order and a working area of this many bytes
+-- edge records."), of a file whose edges must stand in that order, for a working area of this many bytes
 unfoldable pub judgingCheck : Order → List ℕ → List ℕ → ℕ → Check
 judgingCheck order bs ds size = patternCheck bs then areaCheck bs size then modelCheck order ds then namesCheck bs ds
 
@@ -204,7 +204,7 @@ judging-says bs ds size j = (apart, together)
 
 -- ---- what 02's jobs left as it was
 
--- what judging finds without the check of 02's Job 1, the last; in any order it is what 01 says
+-- what judging finds without the check of 02's Job 1, the last; in any order it is what 01 says (`model-any`)
 abbrev pub judgingBefore : Order → List ℕ → List ℕ → ℕ → Finding Judged
 judgingBefore order bs ds size = unless (patternCheck bs then areaCheck bs size then modelCheck order ds) (judgedOf (modelFrom ds) (rootOf bs))
 
@@ -214,13 +214,8 @@ pub listed-as-before : (order : Order) (bs ds : List ℕ) (size : ℕ) → Names
 unfolding judgingBy judgingCheck
 listed-as-before order bs ds size h =
     rw (names-accepted bs ds h)
-    (ap (λ (c : Check). unless c (judgedOf (modelFrom ds) (rootOf bs))) (last-passes (patternCheck bs) (areaCheck bs size) (modelCheck order ds)))
-  where
-    last-passes : (a b c : Check) → a then b then c then passes ≡ a then b then c
-    last-passes (refuses number place) b c = refl
-    last-passes passes (refuses number place) c = refl
-    last-passes passes passes (refuses number place) = refl
-    last-passes passes passes passes = refl
+    (ap (λ (c : Check). unless (patternCheck bs then areaCheck bs size then c) (judgedOf (modelFrom ds) (rootOf bs)))
+    (passes-last (modelCheck order ds)))
 
 -- "Readings without names keep their findings.": so is any model, for a pattern that uses no name
 pub nameless-as-before : (order : Order) (bs ds : List ℕ) (size : ℕ) → ((i : ℕ) → usesName bs i ≡ false)

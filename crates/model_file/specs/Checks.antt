@@ -50,8 +50,7 @@ edgeCheck ds i =
     refusesIf
     (not (ltb (fromOf ds i) (nodeCount ds)) || (not (leb (axisOf ds i) maxAxis) || not (ltb (toOf ds i) (nodeCount ds)))) 14 i
 
--- 02, Job 3: "28, in each edge record after its 14 check, when it doesn't come after the record before it, place that record". In any order
--- nothing is out of it.
+-- 02, Job 3: "28, .. when it doesn't come after the record before it, place that record". In any order nothing is out of it.
 unfoldable pub orderCheck : Order → List ℕ → ℕ → Check
 orderCheck order ds i = refusesIf (not (inOrder order ds i)) 28 i
 
@@ -59,7 +58,7 @@ orderCheck order ds i = refusesIf (not (inOrder order ds i)) 28 i
 unfoldable pub recordCheck : Order → List ℕ → ℕ → Check
 recordCheck order ds i = edgeCheck ds i then orderCheck order ds i
 
--- refusals 10 to 14 and 28 for files whose edges stand in that order: all name records before any edge record
+-- refusals 10 to 14 and 28 of a file whose edges must stand in that order: all name records before any edge record
 unfoldable pub modelCheck : Order → List ℕ → Check
 modelCheck order ds = headerCheck ds then eachBelow (nameCount ds) (nameCheck ds) then eachBelow (edgeCount ds) (recordCheck order ds)
 

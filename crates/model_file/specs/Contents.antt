@@ -15,8 +15,8 @@ use Rattle.model_file.specs.Layout.{nodeCount, nameCount, edgeCount, pro
 abbrev pub recordLeads : List ℕ → ℕ → ℕ → ℕ → ℕ → Bool
 recordLeads ds a u v i = eqb (fromOf ds i) u && (eqb (axisOf ds i) a && eqb (toOf ds i) v)
 
--- axis a leads from u to v where some record says so: whatever order the records stand in, and whether one repeats another (01, which 02's
--- Job 3 amends to edges that rise; older files may have them so, Job 4)
+-- axis a leads from u to v where some record says so. 01: "Edges stand in any order; a repeat counts as one.", which is true of this
+-- definition still; 02's Job 3 amends it to edges that rise, and its Job 4 takes older files as 01 has them
 unfoldable pub leadsIn : List ℕ → ℕ → ℕ → ℕ → Bool
 leadsIn ds a u v = someBelow (edgeCount ds) (recordLeads ds a u v)
 

@@ -1,4 +1,5 @@
--- A valid model file, put declaratively: it is what the checks pass, and what later work knows of a model that they passed.
+-- A valid model file, put declaratively: it is what the checks 10 to 14 pass, and what later work knows of a model that they passed. That
+-- its edges rise stands beside it (`EdgesRise`).
 -- Assumes nothing.
 use mathlib.Core.Path.{_≡_, refl}
 use mathlib.Core.Bool.{Bool, true, false, not, _&&_, _||_}
@@ -14,7 +15,7 @@ use Rattle.nodeset.specs.Below.{lowest-below, lowest-is}
 use Rattle.pattern.specs.Logic.Finite.{Named}
 use Rattle.pattern.specs.File.Types.{maxName, maxAxis}
 use Rattle.pattern.specs.Checks.Tests.{or-is-false, and-is-true}
-use Rattle.pattern.specs.Checks.Finding.{passes, refuses, _then_, then-passes, refusesIf-passes}
+use Rattle.pattern.specs.Checks.Finding.{passes, refuses, _then_, then-passes, passes-last, refusesIf-passes}
 use Rattle.pattern.specs.Checks.Range.{eachBelow, each-at, each-below, each-first, each-same, none-at, none-below, some-at, some-found}
 use Rattle.model_file.specs.Layout.{mark, nodeCount, maxNodes, nameCount, maxNames, edgeCount, maxEdges, lengthOf, nameOf, nodeOfRecord, fromOf, axisOf, toOf}
 use Rattle.model_file.specs.Order.{Order, any, rising, EdgesRise, inOrder}
@@ -44,7 +45,7 @@ pub record ValidEdge (ds : List ℕ) (i : ℕ) : Type 0 where
   pub axis-within : axisOf ds i ≤ maxAxis
   pub to-within : toOf ds i < nodeCount ds
 
--- a file that meets the checks 10 to 14; that its edges rise, which 28 asks, is said beside it (`EdgesRise`)
+-- a file that meets the checks 10 to 14, in whatever order its edges stand
 pub record ValidModel (ds : List ℕ) : Type 0 where
   pub header : ValidHeader ds
   pub names : (j : ℕ) → j < nameCount ds → ValidName ds j
@@ -199,6 +200,15 @@ model-unordered ds h = rw (each-same (recordCheck rising ds) (recordCheck any ds
   where
     same : (i : ℕ) → i < edgeCount ds → recordCheck rising ds i ≡ recordCheck any ds i
     same i l = rw (in-order rising ds h i l)
+
+-- in any order they are 01's own, 10 to 14 without 28
+pub model-any : (ds : List ℕ)
+    → modelCheck any ds ≡ headerCheck ds then eachBelow (nameCount ds) (nameCheck ds) then eachBelow (edgeCount ds) (edgeCheck ds)
+unfolding modelCheck recordCheck orderCheck
+model-any ds = rw (each-same (recordCheck any ds) (edgeCheck ds) (edgeCount ds) same)
+  where
+    same : (i : ℕ) → i < edgeCount ds → recordCheck any ds i ≡ edgeCheck ds i
+    same i l = passes-last (edgeCheck ds i)
 
 -- the model of a valid file
 module _ {ds : List ℕ} (ok : ValidModel ds) where

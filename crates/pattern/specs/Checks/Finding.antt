@@ -47,6 +47,10 @@ pub then-passes : (c d : Check) → c then d ≡ passes → (c ≡ passes) × (d
 then-passes passes d h = (refl, h)
 then-passes (refuses number place) d h = (h, cc)
 
+pub passes-last : (c : Check) → c then passes ≡ c
+passes-last passes = refl
+passes-last (refuses number place) = refl
+
 pub refusesIf-passes : (fault : Bool) (number place : ℕ) → refusesIf fault number place ≡ passes → fault ≡ false
 refusesIf-passes true number place h = cc
 refusesIf-passes false number place h = refl

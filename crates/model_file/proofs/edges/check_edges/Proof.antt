@@ -10,7 +10,7 @@ use mathlib.Core.Bool.{Bool, true, false, not}
 use native.Mathlib.Omega.{arith}
 use lib.Dec.{ltb}
 use lib.ListN.{getD}
-use Rattle.pattern.specs.Checks.Finding.{passes, refuses}
+use Rattle.pattern.specs.Checks.Finding.{passes}
 use Rattle.pattern.specs.Checks.Range.{each-below, each-first}
 use Rattle.model_file.specs.Order.{rising, inOrder}
 use Rattle.model_file.specs.Rising.{leastAt, least-next, rank-narrow, rising-ranked}
