@@ -1,5 +1,5 @@
-//! Document 01, with the requests of document 02 that have landed (Job 1), implemented once more from their words
-//! alone, to be compared with the proved library.
+//! Document 01, with the requests of document 02 that have landed (Jobs 1 and 3; Job 2 changes no answer),
+//! implemented once more from their words alone, to be compared with the proved library.
 
 mod bytes;
 pub mod explain;

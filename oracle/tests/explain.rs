@@ -254,12 +254,13 @@ fn edges_that_do_not_rise() {
         format!(
             "Finding: refused 28 1, edge record 1: {meaning}.\n\
              Edge record 1 is from 0, axis 1, to 2; edge record 0 is from 0, axis 2, to 1.\n\
-             Edge record 1 comes before record 0.\n"
+             Edge record 1 comes before record 0 in that order.\n"
         )
     );
     let belongs = said(&[[0, 0, 0], [1, 0, 0], [1, 0, 2], [2, 0, 0], [1, 0, 1]]);
     assert!(
-        belongs.ends_with("\nEdge record 4 comes before record 3, and belongs before record 2.\n"),
+        belongs
+            .ends_with("\nEdge record 4 comes before record 3 in that order, and belongs before record 2.\n"),
         "{belongs}"
     );
     let repeats = said(&[[0, 0, 0], [1, 0, 0], [1, 0, 2], [2, 0, 0], [1, 0, 0]]);

@@ -109,26 +109,17 @@ fn everything_occurs_and_what_never_does_is_named() {
     assert_eq!(missing(|tally| tally.rules[3].refused[1] = 0), ["a step with rule 3 refused 21"]);
     assert_eq!(missing(|tally| tally.rules[14].refused[2] = 0), ["a step with rule 14 refused 22"]);
     assert_eq!(missing(|tally| tally.short[1][9] = 0), ["a file of 9 bytes for judging a model"]);
-    assert_eq!(
-        missing(|tally| tally.limits.retain(|limit, _| *limit != "64 nodes judged")),
-        ["limit: 64 nodes judged"]
-    );
-    assert_eq!(
-        missing(|tally| assert!(tally.limits.remove("met, names used").is_some())),
-        ["names: met, names used"]
-    );
-    assert_eq!(
-        missing(|tally| assert!(tally.limits.remove("edge record 1 refused 28").is_some())),
-        ["edges: edge record 1 refused 28"]
-    );
-    assert_eq!(
-        missing(|tally| assert!(tally.limits.remove("name by itself refused 22").is_some())),
-        ["fresh names: name by itself refused 22"]
-    );
-    assert_eq!(
-        missing(|tally| assert!(tally.limits.remove("entries that share a slot read").is_some())),
-        ["slots: entries that share a slot read"]
-    );
+    for (sort, situation) in [
+        ("limit", "64 nodes judged"),
+        ("names", "met, names used"),
+        ("edges", "edge record 1 refused 28"),
+        ("fresh names", "name by itself refused 22"),
+        ("slots", "entries that share a slot read"),
+    ] {
+        let mut tally = complete.clone();
+        assert!(tally.limits.remove(situation).is_some());
+        assert_eq!(tally.missing(), [format!("{sort}: {situation}")]);
+    }
     assert_eq!(missing(|tally| assert!(tally.names[1].remove(&0))), ["name 0 refused 18"]);
     assert_eq!(missing(|tally| assert!(tally.names[2].remove(&64))), ["name 64 of the branch refused 22"]);
     assert_eq!(missing(|tally| assert!(tally.names[3].remove(&127))), ["name 127 of the pattern refused 22"]);

@@ -4,7 +4,7 @@ use super::limits::{Judged, Limit};
 use crate::generate::input::Never;
 use std::cmp::Ordering::{self, Equal, Greater, Less};
 
-pub const EDGES: [Limit; 23] = [
+pub const EDGES: [Limit; 24] = [
     ("repeat of the edge before refused 28", |it| it.falls([Equal; 3])),
     ("edge with a lower to alone refused 28", |it| it.falls([Equal, Equal, Less])),
     ("edge with a lower axis alone refused 28", |it| it.falls([Equal, Less, Equal])),
@@ -29,6 +29,9 @@ pub const EDGES: [Limit; 23] = [
     }),
     ("edge refused 28 before one that is out of range", |it| {
         it.place(28).is_some_and(|place| it.edges()[place..].iter().any(|edge| it.out_of_range(edge)))
+    }),
+    ("edge refused 14 before one that doesn't rise", |it| {
+        it.place(14).is_some_and(|place| !it.edges()[place + 1..].is_sorted_by(|one, next| one < next))
     }),
     ("edge refused 14 that doesn't rise either", |it| {
         it.place(14).is_some_and(|place| place > 0 && it.edges()[place] <= it.edges()[place - 1])

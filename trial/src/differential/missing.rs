@@ -1,11 +1,8 @@
 //! What a run must see: every finding, refusal, rule, limit and kind of input, and each name refused in every
 //! way.
 
-use super::edges::EDGES;
-use super::fresh::FRESH;
-use super::limits::LIMITS;
-use super::names::{EACH_NAME, NAMES};
-use super::slots::SHARED;
+use super::names::EACH_NAME;
+use super::situations::{SITUATIONS, Situations};
 use super::tally::Tally;
 use crate::generate::input::{Kind, Operation};
 use oracle::pattern::MAX_NAME;
@@ -30,11 +27,9 @@ impl Tally {
             }));
         }
         self.add_rules(&mut seen);
-        seen.extend(LIMITS.map(|(limit, _)| (self.shown(limit), format!("limit: {limit}"))));
-        seen.extend(NAMES.map(|(names, _)| (self.shown(names), format!("names: {names}"))));
-        seen.extend(EDGES.map(|(edges, _)| (self.shown(edges), format!("edges: {edges}"))));
-        seen.extend(FRESH.map(|(fresh, _)| (self.shown(fresh), format!("fresh names: {fresh}"))));
-        seen.extend(SHARED.map(|(shared, _)| (self.shown(shared), format!("slots: {shared}"))));
+        for Situations { sort, shown, .. } in SITUATIONS {
+            seen.extend(shown.iter().map(|(words, _)| (self.shown(words), format!("{sort}: {words}"))));
+        }
         for (names, (what, _)) in self.names.iter().zip(EACH_NAME) {
             let each = 0..=MAX_NAME.into();
             seen.extend(each.map(|name| (names.contains(&name).into(), format!("name {name} {what}"))));

@@ -1,11 +1,8 @@
 //! The table that a run prints of its tally.
 
-use super::edges::EDGES;
-use super::fresh::FRESH;
-use super::limits::{LIMITS, Limit};
 use super::missing::{refusals, words};
-use super::names::{EACH_NAME, NAMES};
-use super::slots::SHARED;
+use super::names::EACH_NAME;
+use super::situations::{SITUATIONS, Situations};
 use super::tally::Tally;
 use crate::generate::input::{Kind, Operation};
 use std::fmt;
@@ -29,11 +26,9 @@ impl fmt::Display for Tally {
             let [on, fit, fresh] = rule.refused;
             writeln!(f, "{:>12}    {number:>2} {on:>12} {fit:>12} {fresh:>12}", rule.closed)?;
         }
-        self.write_shown(f, "limits", &LIMITS)?;
-        self.write_shown(f, "names that the pattern uses and those that the model lists", &NAMES)?;
-        self.write_shown(f, "edge records and the records before them", &EDGES)?;
-        self.write_shown(f, "start names and fresh names", &FRESH)?;
-        self.write_shown(f, "entries that share a slot, and repeats", &SHARED)?;
+        for situations in SITUATIONS {
+            self.write_shown(f, situations)?;
+        }
         self.write_each_name(f)?;
         writeln!(f, "files of 0 to 10 bytes")?;
         for operation in Operation::ALL {
@@ -72,10 +67,10 @@ impl Tally {
         Ok(())
     }
 
-    fn write_shown(&self, f: &mut fmt::Formatter<'_>, title: &str, limits: &[Limit]) -> fmt::Result {
-        writeln!(f, "{title}")?;
-        for (limit, _) in limits {
-            writeln!(f, "{:>12}    {limit}", self.shown(limit))?;
+    fn write_shown(&self, f: &mut fmt::Formatter<'_>, situations: Situations) -> fmt::Result {
+        writeln!(f, "{}", situations.heading)?;
+        for (words, _) in situations.shown {
+            writeln!(f, "{:>12}    {words}", self.shown(words))?;
         }
         Ok(())
     }

@@ -1,10 +1,8 @@
 //! What occurred in a run: findings, refusals, rules and kinds of input.
 
-use super::edges::EDGES;
-use super::fresh::FRESH;
-use super::limits::{Judged, LIMITS};
-use super::names::{EACH_NAME, NAMES};
-use super::slots::SHARED;
+use super::limits::Judged;
+use super::names::EACH_NAME;
+use super::situations::SITUATIONS;
 use crate::generate::input::{Input, Kind, Never, Operation};
 use oracle::finding::{Finding, Refusal};
 use oracle::tableau::{HEADER_BYTES, STEP_BYTES};
@@ -65,7 +63,7 @@ impl Tally {
         self.inputs += 1;
         self.kinds[input.kind as usize] += 1;
         let judged = Judged::new(input, finding);
-        let situations = LIMITS.iter().chain(&NAMES).chain(&EDGES).chain(&FRESH).chain(&SHARED);
+        let situations = SITUATIONS.iter().flat_map(|table| table.shown);
         for (limit, _) in situations.filter(|(_, shows)| shows(&judged)) {
             *self.limits.entry(limit).or_default() += 1;
         }

@@ -2,12 +2,13 @@
 
 use oracle::random::Random;
 
-/// Puts edges of a model file out of order, if it has two, and now and then one out of range besides.
-pub fn disorder(random: &mut Random, file: &mut [u8]) {
+/// Puts edges of a model file out of order, and now and then one out of range besides. Whether they are out of
+/// order afterwards: they aren't if there are fewer than two, or by chance.
+pub fn disorder(random: &mut Random, file: &mut [u8]) -> bool {
     let (nodes, names) = (file[5], file[6] as usize);
     let (edges, _) = file[9 + 12 * nodes as usize + 2 * names..].as_chunks_mut();
     if edges.len() < 2 {
-        return;
+        return false;
     }
     let place = random.between(1, edges.len() - 1);
     match random.below(8) {
@@ -22,6 +23,7 @@ pub fn disorder(random: &mut Random, file: &mut [u8]) {
         let field = random.below(3);
         edges[spoilt][field] = random.pick(&[limits(nodes)[field], 255]);
     }
+    !edges.is_sorted_by(|one, next| one < next)
 }
 
 /// Makes the record one that doesn't come after the record before it, from which it has its fields: a repeat, or

@@ -131,12 +131,17 @@ fn random_model(random: &mut Random, input: &mut Input) {
 
 /// A random model with edges out of order, as often as not for a pattern that has a closed tableau.
 fn disordered_model(random: &mut Random, corpus: &Corpus, input: &mut Input) {
-    if random.once_in(2) {
-        model_of_closed(random, corpus, input);
-    } else {
-        random_model(random, input);
+    let closed = random.once_in(2);
+    loop {
+        if closed {
+            model_of_closed(random, corpus, input);
+        } else {
+            random_model(random, input);
+        }
+        if disorder(random, &mut input.proposal) {
+            return;
+        }
     }
-    disorder(random, &mut input.proposal);
 }
 
 /// Renames in the pattern and in the model: names that are missing are then any of the 128.

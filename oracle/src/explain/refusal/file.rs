@@ -120,9 +120,9 @@ fn edge_order(records: &[u8], place: usize) -> String {
     let fault = if record(first) == record(place) {
         format!("repeats record {first}: leave it out")
     } else if first == before {
-        format!("comes before record {before}")
+        format!("comes before record {before} in that order")
     } else {
-        format!("comes before record {before}, and belongs before record {first}")
+        format!("comes before record {before} in that order, and belongs before record {first}")
     };
     format!(
         "Edge record {place} is {}; edge record {before} is {}.\nEdge record {place} {fault}.",

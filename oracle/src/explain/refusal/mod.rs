@@ -29,7 +29,7 @@ pub fn refused(refusal: Refusal) -> String {
     format!("{}{where_at}: {}", Finding::Refused(refusal), MEANINGS[number as usize - 1])
 }
 
-/// By refusal number, from 1 to 28: what documents 01 and 02 say of it.
+/// By refusal number, from 1 to 28: what documents 01 and 02 say of it, and with 27 what may have happened.
 const MEANINGS: [&str; 28] = [
     "the pattern file has under 6 bytes or doesn't begin with PAT",
     "the pattern file's version isn't 1",
