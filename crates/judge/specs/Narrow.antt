@@ -18,10 +18,10 @@ use Rattle.pattern.specs.File.Reading.{countOf, patternCheck, readingOf}
 use Rattle.pattern.specs.File.Valid as pattern
 use Rattle.nodeset.specs.Below.{countBelow, lowest-le}
 use Rattle.decision.specs.Judged.{Judged, met, unmet, judgedIf, judgedBy}
-use Rattle.model_file.specs.Layout.{nodeCount, nameCount, edgeCount}
-use Rattle.model_file.specs.Order.{Order}
-use Rattle.model_file.specs.Checks as file
-use Rattle.model_file.specs.Valid as file-valid
+use Rattle.model_records.specs.Layout.{nodeCount, nameCount, edgeCount}
+use Rattle.model_records.specs.Order.{Order}
+use Rattle.model_records.specs.Checks as file
+use Rattle.model_records.specs.Valid as file-valid
 use Rattle.model.specs.Judging as model
 use Rattle.lines.specs.declared.line.Line.{Line}
 use Rattle.rules.specs.declared.conclusion.Conclusion.{Conclusion}

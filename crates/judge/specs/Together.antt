@@ -6,8 +6,8 @@ use Prim.Native.Nat.{ℕ}
 use lib.ListN.{length}
 use Rattle.pattern.specs.Checks.Finding.{Finding, found, refused}
 use Rattle.decision.specs.Judged.{Judged, met, unmet}
-use Rattle.model_file.specs.Contents.{modelFrom}
-use Rattle.model_file.specs.Valid.{all-named}
+use Rattle.model_records.specs.Contents.{modelFrom}
+use Rattle.model_records.specs.Valid.{all-named}
 use Rattle.model.specs.Judging as model
 use Rattle.tableau.specs.declared.finding.Closed.{Closed}
 use Rattle.tableau.specs.Judging as tableau

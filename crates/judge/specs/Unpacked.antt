@@ -11,7 +11,7 @@ use Rattle.wire.specs.Choice.{pick}
 use Rattle.pattern.specs.Checks.Finding.{Finding, found, refused}
 use Rattle.pattern.specs.File.Reading.{readingOf}
 use Rattle.decision.specs.Judged.{Judged, met, unmet}
-use Rattle.model_file.specs.Order.{rising}
+use Rattle.model_records.specs.Order.{rising}
 use Rattle.model.specs.Judging as model
 use Rattle.tableau.specs.declared.finding.Closed.{Closed}
 use Rattle.tableau.specs.Judging as tableau

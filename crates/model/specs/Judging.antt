@@ -23,14 +23,14 @@ use Rattle.nodeset.specs.Set.{width, has}
 use Rattle.decision.specs.Decision.{holdsTest}
 use Rattle.decision.specs.Judged.{Judged, met, unmet, judgedBy, judgedOf, Says, judged-says, judged-same}
 use Rattle.pattern.specs.File.Reading as reading
-use Rattle.model_file.specs.Checks as file
-use Rattle.model_file.specs.Layout.{nodeCount, edgeCount}
+use Rattle.model_file.specs.Enums as file
+use Rattle.model_records.specs.Layout.{nodeCount, edgeCount}
 use Rattle.decision.specs.Root.{rootHolds, renamed, judged-renamed}
-use Rattle.model_file.specs.Contents.{isListed, nodeNamed, modelFrom}
-use Rattle.model_file.specs.Order.{Order, any, rising, edgeAt, EdgesRise}
-use Rattle.model_file.specs.Rising.{Ordered, no-repeat}
-use Rattle.model_file.specs.Checks.{modelCheck}
-use Rattle.model_file.specs.Valid.{ValidModel, model-valid, model-accepted, model-unordered, all-named}
+use Rattle.model_records.specs.Contents.{isListed, nodeNamed, modelFrom}
+use Rattle.model_records.specs.Order.{Order, any, rising, edgeAt, EdgesRise}
+use Rattle.model_records.specs.Rising.{Ordered, no-repeat}
+use Rattle.model_records.specs.Checks.{modelCheck}
+use Rattle.model_records.specs.Valid.{ValidModel, model-valid, model-accepted, model-unordered, all-named}
 use Rattle.model.specs.declared.judge.JudgeRefusal.{JudgeRefusal}
 use Rattle.model.specs.declared.judge.JudgeCheck.{JudgeCheck}
 use Rattle.model.specs.declared.judge.ModelFinding.{ModelFinding}

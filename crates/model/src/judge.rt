@@ -18,8 +18,8 @@ ghost use Rattle.nodeset.specs.Set.{width, has};
 ghost use Rattle.pattern.specs.Checks.Finding.{found};
 ghost use Rattle.pattern.specs.File.Reading.{readingOf};
 ghost use Rattle.decision.specs.Judged.{judgedBy};
-ghost use Rattle.model_file.specs.Order.{rising};
-ghost use Rattle.model_file.specs.Valid.{ValidModel};
+ghost use Rattle.model_records.specs.Order.{rising};
+ghost use Rattle.model_records.specs.Valid.{ValidModel};
 ghost use Rattle.model.specs.Judging.{namesCheck, judgingCheck, judgingOf, areaAfter, refusalNumber, refusalPlace, checkOf, findingOf};
 
 // The refusals of judging a model: document 01's 1 to 8 of the pattern, 9 of the working area and 10 to

@@ -1,11 +1,11 @@
 // The checks of the edge records: in each of them document 01's refusal 14, and then document 02's 28.
-use crate::records::edge_axis;
-use crate::records::edge_count;
-use crate::records::edge_from;
-use crate::records::edge_to;
-use crate::records::node_count;
 use crate::refusal::ModelCheck;
 use crate::refusal::ModelRefusal;
+use model_records::edge_axis;
+use model_records::edge_count;
+use model_records::edge_from;
+use model_records::edge_to;
+use model_records::node_count;
 use pattern::types::Axis;
 use pattern::types::AxisMade;
 ghost use mathlib.Core.Path.{_≡_};
@@ -14,10 +14,11 @@ ghost use lib.ListN.{length};
 ghost use lib.Dec.{leb};
 ghost use Rattle.pattern.specs.File.Types.{maxAxis};
 ghost use Rattle.pattern.specs.Checks.Range.{eachBelow};
-ghost use Rattle.model_file.specs.Layout.{edgeCount, edgeRecord, lengthOf};
-ghost use Rattle.model_file.specs.Order.{edgeAt, rising};
-ghost use Rattle.model_file.specs.Rising.{rankOf};
-ghost use Rattle.model_file.specs.Checks.{edgeCheck, recordCheck, checkOf};
+ghost use Rattle.model_records.specs.Layout.{edgeCount, edgeRecord, lengthOf};
+ghost use Rattle.model_records.specs.Order.{edgeAt, rising};
+ghost use Rattle.model_records.specs.Rising.{rankOf};
+ghost use Rattle.model_records.specs.Checks.{edgeCheck, recordCheck};
+ghost use Rattle.model_file.specs.Enums.{checkOf};
 
 fn is_axis(v: u8) -> bool
     ensures { λ r. ⌜ r ≡ leb v maxAxis ⌝ }

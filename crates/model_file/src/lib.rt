@@ -1,26 +1,20 @@
-// The model file: the fields of its records, its checks, document 01's refusals 10 to 14 and document
-// 02's 28, in their order, and the names that it lists. Each check answers that it passed or the
-// refusal, and the first refusal decides.
+// The checks of a model file, document 01's refusals 10 to 14 and document 02's 28, in their order, and
+// the names that it lists. Each check answers that it passed or the refusal, and the first refusal
+// decides.
 mod edges;
-mod records;
 mod refusal;
 
 use edges::check_edges;
+use model_records::edge_count;
+use model_records::edge_record;
+use model_records::name_count;
+use model_records::name_of;
+use model_records::node_count;
+use model_records::node_of_record;
 use names::NameSet;
 use nodeset::NodeSet;
 use pattern::types::Name;
 use pattern::types::NameMade;
-pub use records::edge_axis;
-pub use records::edge_count;
-pub use records::edge_from;
-use records::edge_record;
-pub use records::edge_to;
-pub use records::has_property;
-pub use records::name_count;
-pub use records::name_of;
-pub use records::node_count;
-pub use records::node_of_record;
-pub use records::value_on;
 pub use refusal::ModelCheck;
 pub use refusal::ModelRefusal;
 ghost use mathlib.Core.Path.{_≡_};
@@ -30,11 +24,12 @@ ghost use lib.Dec.{leb};
 ghost use Rattle.pattern.specs.File.Types.{maxName};
 ghost use Rattle.names.specs.Set.{SetOf};
 ghost use Rattle.pattern.specs.Checks.Range.{eachBelow};
-ghost use Rattle.model_file.specs.Layout.{nameCount, nameRecord, lengthOf};
-ghost use Rattle.model_file.specs.Order.{rising};
-ghost use Rattle.model_file.specs.Checks.{countsWrong, headerCheck, repeatsName, nameCheck, modelCheck, checkOf};
-ghost use Rattle.model_file.specs.Contents.{isListed};
-ghost use Rattle.model_file.specs.Valid.{ValidModel};
+ghost use Rattle.model_records.specs.Layout.{nameCount, nameRecord, lengthOf};
+ghost use Rattle.model_records.specs.Order.{rising};
+ghost use Rattle.model_records.specs.Checks.{countsWrong, headerCheck, repeatsName, nameCheck, modelCheck};
+ghost use Rattle.model_file.specs.Enums.{checkOf};
+ghost use Rattle.model_records.specs.Contents.{isListed};
+ghost use Rattle.model_records.specs.Valid.{ValidModel};
 
 // Document 01's bounds of the three counts.
 const MAX_NODES: u8 = NodeSet::WIDTH;

@@ -1,6 +1,6 @@
 // The refusals of a model file.
 ghost use mathlib.Core.Path.{_≡_};
-ghost use Rattle.model_file.specs.Checks.{refusalNumber, refusalPlace};
+ghost use Rattle.model_file.specs.Enums.{refusalNumber, refusalPlace};
 
 // Document 01's refusals 10 to 14 and document 02's 28; those that have a place hold the record's number.
 pub enum ModelRefusal {

@@ -5,8 +5,8 @@ use Prim.Native.Nat.{ℕ}
 use native.Mathlib.Nat.{not-suc-le-zero}
 use Rattle.evaluation.specs.Tables.{Tabled, Alike}
 use Rattle.evaluation.specs.Standing.{Standing}
-use Rattle.model_file.specs.Contents.{modelFrom}
-use Rattle.model_file.specs.Valid.{ValidModel, all-named}
+use Rattle.model_records.specs.Contents.{modelFrom}
+use Rattle.model_records.specs.Valid.{ValidModel, all-named}
 
 abbrev pub stands : (bs : List ℕ) {ds : List ℕ} → ValidModel ds → (table alike area : List ℕ) → Tabled (modelFrom ds) table → Alike (modelFrom ds) alike
     → Standing bs table alike area 0

@@ -19,9 +19,9 @@ use Rattle.pattern.specs.File.Types.{maxAxis, maxProperty, maxName, maxChannel}
 use Rattle.pattern.specs.Checks.Tests.{and-is-true, turned}
 use Rattle.pattern.specs.Checks.Range.{someBelow}
 use Rattle.evaluation.specs.Tables.{successorsRow, propertyRow, nameRow, nodesRow, modelRows, alikeRow, Tabled, Alike}
-use Rattle.model_file.specs.Layout.{nodeCount, nameCount, edgeCount, valueOn, nameOf, nodeOfRecord, fromOf, axisOf, toOf}
-use Rattle.model_file.specs.Contents.{recordLeads, leadsIn, hasProperty, isListed, modelFrom}
-use Rattle.model_file.specs.Valid.{ValidModel, all-named, edge-in, listed, unlisted, listed-found, unlisted-none}
+use Rattle.model_records.specs.Layout.{nodeCount, nameCount, edgeCount, valueOn, nameOf, nodeOfRecord, fromOf, axisOf, toOf}
+use Rattle.model_records.specs.Contents.{recordLeads, leadsIn, hasProperty, isListed, modelFrom}
+use Rattle.model_records.specs.Valid.{ValidModel, all-named, edge-in, listed, unlisted, listed-found, unlisted-none}
 
 -- 01, "bit p for property p": the nodes with property p
 abbrev pub WithProperty : List ℕ → ℕ → ℕ → Type 0

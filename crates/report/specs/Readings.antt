@@ -22,12 +22,12 @@ use Rattle.pattern.specs.Meaning.Expression.{end, nodeWithin, pathWithin, nodeA
 use Rattle.decision.specs.Decision.{holdsTest, leadsTest}
 use Rattle.decision.specs.Judged.{unmet, judgedBy, judgedOf, judged-says}
 use Rattle.pattern.specs.Meaning.Names.{usesName}
-use Rattle.model_file.specs.Layout as layout
-use Rattle.model_file.specs.Contents.{leadsIn, isListed, nodeNamed, modelFrom}
-use Rattle.model_file.specs.Order.{EdgesRise, comesBefore, rising}
-use Rattle.model_file.specs.Checks as file
-use Rattle.model_file.specs.Checks.{nameCheck, edgeCheck, orderCheck, recordCheck, modelCheck}
-use Rattle.model_file.specs.Valid.{ValidModel, all-named}
+use Rattle.model_records.specs.Layout as layout
+use Rattle.model_records.specs.Contents.{leadsIn, isListed, nodeNamed, modelFrom}
+use Rattle.model_records.specs.Order.{EdgesRise, comesBefore, rising}
+use Rattle.model_records.specs.Checks as file
+use Rattle.model_records.specs.Checks.{nameCheck, edgeCheck, orderCheck, recordCheck, modelCheck}
+use Rattle.model_records.specs.Valid.{ValidModel, all-named}
 use Rattle.model.specs.Judging.{areaNeed, namesCheck, judgingCheck, judgingBy, judgingOf, NamesListed, checks-pass, judging-finds, judging-refuses}
 use Rattle.lines.specs.Lines.{branchHas}
 use Rattle.rules.specs.Rules.{ruleAt}

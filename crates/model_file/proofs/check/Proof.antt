@@ -5,9 +5,10 @@ use borrow.Author.Needs.{needs}
 use mathlib.Core.Path.{_≡_, sym, ap, _∙_}
 use Rattle.pattern.specs.Checks.Finding.{passes}
 use Rattle.pattern.specs.Checks.Range.{eachBelow}
-use Rattle.model_file.specs.Layout.{nameCount}
-use Rattle.model_file.specs.Checks.{headerCheck, nameCheck, modelCheck, checkOf}
-use Rattle.model_file.specs.Valid.{ValidHeader, header-passes}
+use Rattle.model_records.specs.Layout.{nameCount}
+use Rattle.model_records.specs.Checks.{headerCheck, nameCheck, modelCheck}
+use Rattle.model_file.specs.Enums.{checkOf}
+use Rattle.model_records.specs.Valid.{ValidHeader, header-passes}
 use Rattle.model_file.proofs.check.Statement.{statement}
 use Rattle.model_file.proofs.check.Tie as tie
 

@@ -8,8 +8,8 @@ use mathlib.Core.Bool.{true, false}
 use lib.ListN.{length}
 use lib.Dec.{ltb, eqb}
 use Rattle.wire.specs.Fields.{beginsWith, wordAt}
-use Rattle.model_file.specs.Layout.{mark}
-use Rattle.model_file.specs.Checks.{headerCheck}
+use Rattle.model_records.specs.Layout.{mark}
+use Rattle.model_records.specs.Checks.{headerCheck}
 use Rattle.model_file.proofs.check_header.Statement.{statement}
 use Rattle.model_file.proofs.check_header.Tie as tie
 

@@ -9,8 +9,8 @@ use mathlib.Core.Path.{_≡_, sym, ap, _∙_}
 use mathlib.Core.Bool.{Bool, true, false}
 use lib.Dec.{leb}
 use Rattle.pattern.specs.File.Types.{maxName}
-use Rattle.model_file.specs.Layout.{nodeCount, nameOf, nodeOfRecord}
-use Rattle.model_file.specs.Checks.{nameCheck}
+use Rattle.model_records.specs.Layout.{nodeCount, nameOf, nodeOfRecord}
+use Rattle.model_records.specs.Checks.{nameCheck}
 use Rattle.model_file.proofs.check_name.Statement.{statement}
 use Rattle.model_file.proofs.check_name.Tie as tie
 

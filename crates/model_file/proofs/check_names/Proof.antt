@@ -7,7 +7,8 @@ use mathlib.Core.Path.{_≡_, sym, ap, _∙_}
 use native.Mathlib.Omega.{arith}
 use Rattle.pattern.specs.Checks.Finding.{passes}
 use Rattle.pattern.specs.Checks.Range.{each-below, each-first}
-use Rattle.model_file.specs.Checks.{nameCheck, checkOf}
+use Rattle.model_records.specs.Checks.{nameCheck}
+use Rattle.model_file.specs.Enums.{checkOf}
 use Rattle.model_file.proofs.check_names.Statement.{statement}
 use Rattle.model_file.proofs.check_names.Tie as tie
 

@@ -8,7 +8,7 @@ use mathlib.Core.Path.{_≡_, sym, ap, _∙_}
 use mathlib.Core.Bool.{false, not}
 use lib.ListN.{length}
 use lib.Dec.{ltb, eqb}
-use Rattle.model_file.specs.Layout.{nodeCount, maxNodes, nameCount, maxNames, edgeCount, maxEdges, edgeRecord, lengthOf}
+use Rattle.model_records.specs.Layout.{nodeCount, maxNodes, nameCount, maxNames, edgeCount, maxEdges, edgeRecord, lengthOf}
 use Rattle.model_file.proofs.counts_wrong.Statement.{statement}
 use Rattle.model_file.proofs.counts_wrong.Tie as tie
 

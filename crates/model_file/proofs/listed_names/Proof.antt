@@ -10,8 +10,8 @@ use Rattle.pattern.specs.File.Types.{maxName}
 use Rattle.pattern.specs.Checks.Range.{someBelow, some-next}
 use Rattle.names.specs.declared.NameSet.{NameSet}
 use Rattle.names.specs.Set.{SetOf, has, has-none, has-insert}
-use Rattle.model_file.specs.Layout.{nameCount}
-use Rattle.model_file.specs.Contents.{recordLists, isListed}
+use Rattle.model_records.specs.Layout.{nameCount}
+use Rattle.model_records.specs.Contents.{recordLists, isListed}
 use Rattle.model_file.proofs.listed_names.Statement.{statement}
 use Rattle.model_file.proofs.listed_names.Tie as tie
 

@@ -9,7 +9,7 @@ use mathlib.Core.Bool.{false}
 use native.Mathlib.Omega.{arith}
 use lib.Dec.{eqb}
 use Rattle.pattern.specs.Checks.Range.{none-below, some-at}
-use Rattle.model_file.specs.Layout.{nameOf}
+use Rattle.model_records.specs.Layout.{nameOf}
 use Rattle.model_file.proofs.repeats_name.Statement.{statement}
 use Rattle.model_file.proofs.repeats_name.Tie as tie
 

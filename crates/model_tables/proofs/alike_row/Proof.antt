@@ -7,7 +7,7 @@ use lib.Dec.{eqb}
 use borrow.Author.Tests.{eqb-true, eq-eqb}
 use native.Mathlib.Omega.{arith}
 use Rattle.evaluation.specs.Members.{Collected, collected-none, collected-next}
-use Rattle.model_file.specs.Layout.{valueOn}
+use Rattle.model_records.specs.Layout.{valueOn}
 use Rattle.model_tables.proofs.alike_row.Statement.{statement}
 use Rattle.model_tables.proofs.alike_row.Tie as tie
 

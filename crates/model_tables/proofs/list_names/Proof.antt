@@ -5,7 +5,7 @@ use Prim.Native.Nat.{ℕ, _-_, _≤_, _<_}
 use mathlib.Core.Path.{_≡_, subst}
 use native.Mathlib.Omega.{arith}
 use lib.ListN.{length}
-use Rattle.model_file.specs.Layout.{nameCount, nodeOfRecord}
+use Rattle.model_records.specs.Layout.{nameCount, nodeOfRecord}
 use Rattle.model_tables.specs.Tables.{listed-apart, exactly-only, listedRow, Filled, filled-none, filled-more}
 use Rattle.model_tables.proofs.list_names.Statement.{statement}
 use Rattle.model_tables.proofs.list_names.Tie as tie

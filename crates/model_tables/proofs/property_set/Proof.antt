@@ -6,7 +6,7 @@ use mathlib.Core.Path.{_≡_, sym, _∙_, subst}
 use mathlib.Core.Bool.{true}
 use native.Mathlib.Omega.{arith}
 use Rattle.evaluation.specs.Members.{Collected, collected-none, collected-next}
-use Rattle.model_file.specs.Contents.{hasProperty}
+use Rattle.model_records.specs.Contents.{hasProperty}
 use Rattle.model_tables.proofs.property_set.Statement.{statement}
 use Rattle.model_tables.proofs.property_set.Tie as tie
 

@@ -7,9 +7,10 @@ use mathlib.Core.Path.{_≡_, sym, _∙_, ap}
 use Rattle.pattern.specs.Checks.Finding.{found, passes}
 use Rattle.pattern.specs.File.Reading.{patternCheck, readingOf, findingOf}
 use Rattle.pattern.specs.File.Valid.{read-passes, read-refuses}
-use Rattle.model_file.specs.Order.{rising}
-use Rattle.model_file.specs.Checks.{modelCheck, checkOf}
-use Rattle.model_file.specs.Valid.{model-valid}
+use Rattle.model_records.specs.Order.{rising}
+use Rattle.model_records.specs.Checks.{modelCheck}
+use Rattle.model_file.specs.Enums.{checkOf}
+use Rattle.model_records.specs.Valid.{model-valid}
 use Rattle.model.specs.Judging.{judgingCheck, file-decides, names-decide}
 use Rattle.model.proofs.judge.check_all.Statement.{statement}
 use Rattle.model.proofs.judge.check_all.Tie as tie

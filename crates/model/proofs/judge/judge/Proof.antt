@@ -7,7 +7,7 @@ use lib.ListN.{length, take}
 use Rattle.wire.specs.Cleared.{front-length, cleared-front}
 use Rattle.pattern.specs.Checks.Finding.{found, passes}
 use Rattle.pattern.specs.File.Valid.{valid-read}
-use Rattle.model_file.specs.Order.{rising}
+use Rattle.model_records.specs.Order.{rising}
 use Rattle.model.specs.Judging.{areaNeed, judgingCheck, Allowed, checkOf, checks-pass, judging-finds, judging-refuses, root-judged}
 use Rattle.model.proofs.judge.judge.Statement.{statement}
 use Rattle.model.proofs.judge.judge.Tie as tie

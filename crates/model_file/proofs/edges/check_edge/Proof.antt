@@ -9,8 +9,8 @@ use mathlib.Core.Path.{_≡_, sym, ap, _∙_}
 use mathlib.Core.Bool.{Bool, true, false}
 use lib.Dec.{leb}
 use Rattle.pattern.specs.File.Types.{maxAxis}
-use Rattle.model_file.specs.Layout.{nodeCount, fromOf, axisOf, toOf}
-use Rattle.model_file.specs.Checks.{edgeCheck}
+use Rattle.model_records.specs.Layout.{nodeCount, fromOf, axisOf, toOf}
+use Rattle.model_records.specs.Checks.{edgeCheck}
 use Rattle.model_file.proofs.edges.check_edge.Statement.{statement}
 use Rattle.model_file.proofs.edges.check_edge.Tie as tie
 

@@ -12,10 +12,11 @@ use lib.Dec.{ltb}
 use lib.ListN.{getD}
 use Rattle.pattern.specs.Checks.Finding.{passes}
 use Rattle.pattern.specs.Checks.Range.{each-below, each-first}
-use Rattle.model_file.specs.Order.{rising, inOrder}
-use Rattle.model_file.specs.Rising.{leastAt, least-next, rank-narrow, rising-ranked}
-use Rattle.model_file.specs.Checks.{edgeCheck, recordCheck, checkOf}
-use Rattle.model_file.specs.Valid.{edge-decides, order-refuses, order-passes}
+use Rattle.model_records.specs.Order.{rising, inOrder}
+use Rattle.model_records.specs.Rising.{leastAt, least-next, rank-narrow, rising-ranked}
+use Rattle.model_records.specs.Checks.{edgeCheck, recordCheck}
+use Rattle.model_file.specs.Enums.{checkOf}
+use Rattle.model_records.specs.Valid.{edge-decides, order-refuses, order-passes}
 use Rattle.model_file.proofs.edges.check_edges.Statement.{statement}
 use Rattle.model_file.proofs.edges.check_edges.Tie as tie
 

@@ -1,8 +1,8 @@
--- `model_file::records::name_of` meets its contract: the byte is the record's first.
+-- `model_records::name_of` meets its contract: the byte is the record's first.
 -- Assumes nothing.
 use borrow.Author.Needs.{needs}
-use Rattle.model_file.proofs.records.name_of.Statement.{statement}
-use Rattle.model_file.proofs.records.name_of.Tie as tie
+use Rattle.model_records.proofs.name_of.Statement.{statement}
+use Rattle.model_records.proofs.name_of.Tie as tie
 
 name-record-requires : tie.Need-name-record-requires
 name-record-requires c κs = search needs

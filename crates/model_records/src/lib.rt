@@ -4,8 +4,8 @@ ghost use mathlib.Core.Path.{_≡_};
 ghost use Prim.Native.Nat.{_+_, _≤_};
 ghost use lib.ListN.{length};
 ghost use Rattle.pattern.specs.File.Types.{maxProperty, maxChannel};
-ghost use Rattle.model_file.specs.Layout.{nodeCount, nameCount, edgeCount, nodeRecord, nameRecord, edgeRecord, valueOn, nameOf, nodeOfRecord, fromOf, axisOf, toOf};
-ghost use Rattle.model_file.specs.Contents.{hasProperty};
+ghost use Rattle.model_records.specs.Layout.{nodeCount, nameCount, edgeCount, nodeRecord, nameRecord, edgeRecord, valueOn, nameOf, nodeOfRecord, fromOf, axisOf, toOf};
+ghost use Rattle.model_records.specs.Contents.{hasProperty};
 
 // The count of the nodes.
 pub fn node_count(d: &[u8]) -> u8

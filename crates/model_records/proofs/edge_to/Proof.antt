@@ -1,8 +1,8 @@
--- `model_file::records::edge_to` meets its contract: the byte is the record's third.
+-- `model_records::edge_to` meets its contract: the byte is the record's third.
 -- Assumes nothing.
 use borrow.Author.Needs.{needs}
-use Rattle.model_file.proofs.records.edge_to.Statement.{statement}
-use Rattle.model_file.proofs.records.edge_to.Tie as tie
+use Rattle.model_records.proofs.edge_to.Statement.{statement}
+use Rattle.model_records.proofs.edge_to.Tie as tie
 
 edge-record-requires : tie.Need-edge-record-requires
 edge-record-requires c κs = search needs

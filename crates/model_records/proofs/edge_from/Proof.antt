@@ -1,8 +1,8 @@
--- `model_file::records::edge_from` meets its contract: the byte is the record's first.
+-- `model_records::edge_from` meets its contract: the byte is the record's first.
 -- Assumes nothing.
 use borrow.Author.Needs.{needs}
-use Rattle.model_file.proofs.records.edge_from.Statement.{statement}
-use Rattle.model_file.proofs.records.edge_from.Tie as tie
+use Rattle.model_records.proofs.edge_from.Statement.{statement}
+use Rattle.model_records.proofs.edge_from.Tie as tie
 
 edge-record-requires : tie.Need-edge-record-requires
 edge-record-requires c κs = search needs

@@ -1,13 +1,13 @@
--- `model_file::records::has_property` meets its contract: the four bytes make the property set of the node.
+-- `model_records::has_property` meets its contract: the four bytes make the property set of the node.
 -- Assumes nothing.
 use borrow.Author.Needs.{needs}
 use Prim.Native.Nat.{ℕ, _^_, _/_, _%_}
 use mathlib.Core.Path.{_≡_, ap, _∙_}
 use lib.Dec.{eqb}
 use Rattle.wire.specs.Fields.{word32At}
-use Rattle.model_file.specs.Layout.{propertySet}
-use Rattle.model_file.proofs.records.has_property.Statement.{statement}
-use Rattle.model_file.proofs.records.has_property.Tie as tie
+use Rattle.model_records.specs.Layout.{propertySet}
+use Rattle.model_records.proofs.has_property.Statement.{statement}
+use Rattle.model_records.proofs.has_property.Tie as tie
 
 node-record-requires : tie.Need-node-record-requires
 node-record-requires c κs = search needs

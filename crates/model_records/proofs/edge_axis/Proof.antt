@@ -1,8 +1,8 @@
--- `model_file::records::edge_axis` meets its contract: the byte is that of the record's axis.
+-- `model_records::edge_axis` meets its contract: the byte is that of the record's axis.
 -- Assumes nothing.
 use borrow.Author.Needs.{needs}
-use Rattle.model_file.proofs.records.edge_axis.Statement.{statement}
-use Rattle.model_file.proofs.records.edge_axis.Tie as tie
+use Rattle.model_records.proofs.edge_axis.Statement.{statement}
+use Rattle.model_records.proofs.edge_axis.Tie as tie
 
 edge-record-requires : tie.Need-edge-record-requires
 edge-record-requires c κs = search needs

@@ -1,8 +1,8 @@
--- `model_file::records::node_of_record` meets its contract: the byte is the record's second.
+-- `model_records::node_of_record` meets its contract: the byte is the record's second.
 -- Assumes nothing.
 use borrow.Author.Needs.{needs}
-use Rattle.model_file.proofs.records.node_of_record.Statement.{statement}
-use Rattle.model_file.proofs.records.node_of_record.Tie as tie
+use Rattle.model_records.proofs.node_of_record.Statement.{statement}
+use Rattle.model_records.proofs.node_of_record.Tie as tie
 
 name-record-requires : tie.Need-name-record-requires
 name-record-requires c κs = search needs

@@ -1,8 +1,8 @@
--- `model_file::records::value_on` meets its contract: the value stands behind the property set and the values of the channels before.
+-- `model_records::value_on` meets its contract: the value stands behind the property set and the values of the channels before.
 -- Assumes nothing.
 use borrow.Author.Needs.{needs}
-use Rattle.model_file.proofs.records.value_on.Statement.{statement}
-use Rattle.model_file.proofs.records.value_on.Tie as tie
+use Rattle.model_records.proofs.value_on.Statement.{statement}
+use Rattle.model_records.proofs.value_on.Tie as tie
 
 node-record-requires : tie.Need-node-record-requires
 node-record-requires c κs = search needs

@@ -17,11 +17,11 @@ use Rattle.pattern.specs.File.Types.{maxName, maxAxis}
 use Rattle.pattern.specs.Checks.Tests.{or-is-false, and-is-true}
 use Rattle.pattern.specs.Checks.Finding.{passes, refuses, _then_, then-passes, passes-last, refusesIf-passes}
 use Rattle.pattern.specs.Checks.Range.{eachBelow, each-at, each-below, each-first, each-same, none-at, none-below, some-at, some-found}
-use Rattle.model_file.specs.Layout.{mark, nodeCount, maxNodes, nameCount, maxNames, edgeCount, maxEdges, lengthOf, nameOf, nodeOfRecord, fromOf, axisOf, toOf}
-use Rattle.model_file.specs.Order.{Order, any, rising, EdgesRise, inOrder}
-use Rattle.model_file.specs.Rising.{Ordered, ordered, in-order}
-use Rattle.model_file.specs.Contents.{recordLeads, leadsIn, recordLists, isListed, recordOfName, nodeNamed, modelFrom}
-use Rattle.model_file.specs.Checks.{markCheck, versionCheck, countCheck, headerCheck, repeatsName, nameCheck, edgeCheck, orderCheck, recordCheck, modelCheck}
+use Rattle.model_records.specs.Layout.{mark, nodeCount, maxNodes, nameCount, maxNames, edgeCount, maxEdges, lengthOf, nameOf, nodeOfRecord, fromOf, axisOf, toOf}
+use Rattle.model_records.specs.Order.{Order, any, rising, EdgesRise, inOrder}
+use Rattle.model_records.specs.Rising.{Ordered, ordered, in-order}
+use Rattle.model_records.specs.Contents.{recordLeads, leadsIn, recordLists, isListed, recordOfName, nodeNamed, modelFrom}
+use Rattle.model_records.specs.Checks.{markCheck, versionCheck, countCheck, headerCheck, repeatsName, nameCheck, edgeCheck, orderCheck, recordCheck, modelCheck}
 
 -- a header that meets the checks 10 to 12
 pub record ValidHeader (ds : List ℕ) : Type 0 where

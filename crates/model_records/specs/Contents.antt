@@ -9,7 +9,7 @@ use Rattle.nodeset.specs.Below.{lowestBelow}
 use Rattle.pattern.specs.Logic.Finite.{Finite}
 use Rattle.pattern.specs.File.Types.{maxChannel}
 use Rattle.pattern.specs.Checks.Range.{someBelow}
-use Rattle.model_file.specs.Layout.{nodeCount, nameCount, edgeCount, propertySet, valueOn, nameOf, nodeOfRecord, fromOf, axisOf, toOf}
+use Rattle.model_records.specs.Layout.{nodeCount, nameCount, edgeCount, propertySet, valueOn, nameOf, nodeOfRecord, fromOf, axisOf, toOf}
 
 -- edge record i says that axis a leads from u to v
 abbrev pub recordLeads : List ℕ → ℕ → ℕ → ℕ → ℕ → Bool

@@ -7,12 +7,10 @@ use lib.ListN.{length}
 use lib.Dec.{leb, ltb, eqb}
 use Rattle.wire.specs.Fields.{beginsWith, wordAt}
 use Rattle.pattern.specs.File.Types.{maxName, maxAxis}
-use Rattle.pattern.specs.Checks.Finding.{Check, passes, refuses, refusesIf, _then_}
+use Rattle.pattern.specs.Checks.Finding.{Check, refusesIf, _then_}
 use Rattle.pattern.specs.Checks.Range.{someBelow, eachBelow}
-use Rattle.model_file.specs.declared.refusal.ModelRefusal.{ModelRefusal}
-use Rattle.model_file.specs.declared.refusal.ModelCheck.{ModelCheck}
-use Rattle.model_file.specs.Layout.{mark, nodeCount, maxNodes, nameCount, maxNames, edgeCount, maxEdges, lengthOf, nameOf, nodeOfRecord, fromOf, axisOf, toOf}
-use Rattle.model_file.specs.Order.{Order, inOrder}
+use Rattle.model_records.specs.Layout.{mark, nodeCount, maxNodes, nameCount, maxNames, edgeCount, maxEdges, lengthOf, nameOf, nodeOfRecord, fromOf, axisOf, toOf}
+use Rattle.model_records.specs.Order.{Order, inOrder}
 
 -- "10: under 9 bytes or wrong mark."
 abbrev pub markCheck : List ℕ → Check
@@ -61,27 +59,3 @@ recordCheck order ds i = edgeCheck ds i then orderCheck order ds i
 -- refusals 10 to 14 and 28 of a file whose edges must stand in that order: all name records before any edge record
 unfoldable pub modelCheck : Order → List ℕ → Check
 modelCheck order ds = headerCheck ds then eachBelow (nameCount ds) (nameCheck ds) then eachBelow (edgeCount ds) (recordCheck order ds)
-
--- the documents' number and place of each refusal of a model file
-abbrev pub refusalNumber : ModelRefusal → ℕ
-refusalNumber ModelRefusal.Mark = 10
-refusalNumber ModelRefusal.Version = 11
-refusalNumber ModelRefusal.Count = 12
-refusalNumber (ModelRefusal.Name j) = 13
-refusalNumber (ModelRefusal.Edge i) = 14
-refusalNumber (ModelRefusal.Order i) = 28
-
-abbrev pub refusalPlace : ModelRefusal → ℕ
-refusalPlace ModelRefusal.Mark = 0
-refusalPlace ModelRefusal.Version = 0
-refusalPlace ModelRefusal.Count = 0
-refusalPlace (ModelRefusal.Name j) = j
-refusalPlace (ModelRefusal.Edge i) = i
-refusalPlace (ModelRefusal.Order i) = i
-
--- ---- laws
-
--- the outcome of a check of a model file
-abbrev pub checkOf : ModelCheck → Check
-checkOf ModelCheck.Passed = passes
-checkOf (ModelCheck.Refused refusal) = refuses (refusalNumber refusal) (refusalPlace refusal)

@@ -1,9 +1,9 @@
--- `model_file::records::edge_record` meets its contract: the names' records end where the definition says, and the count of the nodes is a byte.
+-- `model_records::edge_record` meets its contract: the names' records end where the definition says, and the count of the nodes is a byte.
 -- Assumes nothing.
 use borrow.Author.Needs.{needs}
 use native.Mathlib.Omega.{arith}
-use Rattle.model_file.proofs.records.edge_record.Statement.{statement}
-use Rattle.model_file.proofs.records.edge_record.Tie as tie
+use Rattle.model_records.proofs.edge_record.Statement.{statement}
+use Rattle.model_records.proofs.edge_record.Tie as tie
 
 name-count-requires : tie.Need-name-count-requires
 name-count-requires c κs = search needs

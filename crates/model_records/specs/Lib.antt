@@ -1,0 +1,8 @@
+-- In the order of reading.
+pub mod Layout
+pub mod Contents
+pub mod Order
+pub mod Checks
+pub mod Rising
+pub mod OneFile
+pub mod Valid
