@@ -135,25 +135,41 @@ judged-low n test l = judged-met n test (lowestBelow n test) l (lowest-holds n t
 pub judged-empty : (n : ℕ) (test : ℕ → Bool) → countBelow n test ≡ 0 → judgedBy n test ≡ unmet
 judged-empty n test e = judged-unmet n test (count-none n test e)
 
--- the finding of a test on the numbers below n is that of a test that agrees with it there and that no further number passes
-pub judged-same : (n m : ℕ) (s t : ℕ → Bool) → ((k : ℕ) → k < n → s k ≡ t k) → n ≤ m → ((k : ℕ) → n ≤ k → s k ≡ false)
-    → judgedBy m s ≡ judgedBy n t
-judged-same n m s t same w beyond = go (someBelow n t) refl
+-- tests that agree on the numbers below n have the same finding
+pub judged-alike : (n : ℕ) (s t : ℕ → Bool) → ((k : ℕ) → k < n → s k ≡ t k) → judgedBy n s ≡ judgedBy n t
+judged-alike n s t same = go (someBelow n t) refl
   where
-    fails : someBelow n t ≡ false → (k : ℕ) (b : Bool) → ltb k n ≡ b → s k ≡ false
-    fails e k true l = same k (ltb-true k n l) ∙ none-at t n k e (ltb-true k n l)
-    fails e k false l = beyond k (ltb-false k n l)
-
-    go : (b : Bool) → someBelow n t ≡ b → judgedBy m s ≡ judgedBy n t
+    go : (b : Bool) → someBelow n t ≡ b → judgedBy n s ≡ judgedBy n t
     go true e =
         let r = some-found t n e in
-        let p = same (r .0) (r .1) ∙ r .2 in
         rw (
-          judged-met m s (r .0) (lt-of-lt-of-le (r .1) w) p,
+          judged-met n s (r .0) (r .1) (same (r .0) (r .1) ∙ r .2),
           judged-met n t (r .0) (r .1) (r .2),
-          lowest-wider n m s (r .0) w (r .1) p,
-          count-wider n m s w beyond,
           lowest-same n s t same,
           count-same n s t same,
         )
-    go false e = judged-unmet m s (λ k h. fails e k (ltb k n) refl) ∙ sym (judged-unmet n t (λ k h. none-at t n k e h))
+    go false e = judged-unmet n s (λ k h. same k h ∙ none-at t n k e h) ∙ sym (judged-unmet n t (λ k h. none-at t n k e h))
+
+-- numbers that don't pass change nothing
+judged-wider : (n m : ℕ) (test : ℕ → Bool) → n ≤ m → ((k : ℕ) → n ≤ k → test k ≡ false) → judgedBy m test ≡ judgedBy n test
+judged-wider n m test w beyond = go (someBelow n test) refl
+  where
+    fails : someBelow n test ≡ false → (k : ℕ) (b : Bool) → ltb k n ≡ b → test k ≡ false
+    fails e k true l = none-at test n k e (ltb-true k n l)
+    fails e k false l = beyond k (ltb-false k n l)
+
+    go : (b : Bool) → someBelow n test ≡ b → judgedBy m test ≡ judgedBy n test
+    go true e =
+        let r = some-found test n e in
+        rw (
+          judged-met m test (r .0) (lt-of-lt-of-le (r .1) w) (r .2),
+          judged-met n test (r .0) (r .1) (r .2),
+          lowest-wider n m test (r .0) w (r .1) (r .2),
+          count-wider n m test w beyond,
+        )
+    go false e = judged-unmet m test (λ k h. fails e k (ltb k n) refl) ∙ sym (judged-unmet n test (λ k h. none-at test n k e h))
+
+-- the finding of a test on the numbers below n is that of a test that agrees with it there and that no further number passes
+pub judged-same : (n m : ℕ) (s t : ℕ → Bool) → ((k : ℕ) → k < n → s k ≡ t k) → n ≤ m → ((k : ℕ) → n ≤ k → s k ≡ false)
+    → judgedBy m s ≡ judgedBy n t
+judged-same n m s t same w beyond = judged-wider n m s w beyond ∙ judged-alike n s t same

@@ -2,3 +2,4 @@
 pub mod Decision
 pub mod Judged
 pub mod Root
+pub mod Agreeing

@@ -8,6 +8,7 @@ use Prim.Native.Nat.{ℕ, _-_, _<_}
 use native.Mathlib.Omega.{arith}
 use lib.Dec.{ltb}
 use borrow.Author.Tests.{ltb-true, ltb-false}
+use Rattle.pattern.specs.Checks.Tests.{same-tests}
 use Rattle.pattern.specs.Logic.Finite.{Finite, Named, modelOf, namingOf, node-same}
 use Rattle.pattern.specs.File.Reading.{countOf}
 use Rattle.pattern.specs.File.Valid.{Valid}
@@ -21,11 +22,6 @@ unfoldable pub rootHolds : List ℕ → Finite → ℕ → Bool
 rootHolds bs F u = ltb u (F .size) && holdsTest F (rootOf bs) u
 
 -- ---- laws
-same-tests : (a b : Bool) → (a ≡ true) ↔ (b ≡ true) → a ≡ b
-same-tests true b h = sym (h .0 refl)
-same-tests false true h = h .1 refl
-same-tests false false h = refl
-
 -- a test that passes exactly where the root holds at a node
 pub root-holds : (bs : List ℕ) (F : Finite) (ok : Named F) (u : ℕ) (t : Bool) → (t ≡ true) ↔ HoldsNode F ok (rootOf bs) u → t ≡ rootHolds bs F u
 unfolding rootHolds

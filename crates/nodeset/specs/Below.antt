@@ -1,7 +1,7 @@
 -- The numbers below a bound that pass a test: the lowest, and how many there are.
 -- Assumes nothing.
 use mathlib.Core.Path.{_≡_, refl, sym, _∙_, ap}
-use mathlib.Core.Bool.{Bool, true, false, true≢false}
+use mathlib.Core.Bool.{Bool, true, false, _||_, true≢false}
 use mathlib.Core.Logic.{_⊎_, inl, inr}
 use Prim.Native.Nat.{ℕ, zero, suc, _+_, _-_, _≤_, _<_}
 use native.Mathlib.Omega.{arith}
@@ -161,3 +161,33 @@ count-fewer (suc n) s t j h keeps gone was =
         → (j < n → countBelow n s < countBelow n t) → countBelow n s + pick (s n) 1 0 < countBelow n t + pick (t n) 1 0
     go (inl e) le one below = rw (rw e at gone, rw e at was) (omega arith)
     go (inr l) le one below = omega (arith, below l)
+
+-- there are no more than numbers
+pub count-le : (n : ℕ) (test : ℕ → Bool) → countBelow n test ≤ n
+unfolding countBelow
+count-le zero test = omega arith
+count-le (suc n) test = let a = count-le n test in let b = one-no-more (test n) true (λ e. refl) in omega arith
+
+-- where one of two tests passes, there are no more than both have
+pub count-either : (n : ℕ) (s t : ℕ → Bool) → countBelow n (λ k. s k || t k) ≤ countBelow n s + countBelow n t
+unfolding countBelow
+count-either zero s t = omega arith
+count-either (suc n) s t = let a = count-either n s t in let b = one (s n) (t n) in omega arith
+  where
+    one : (a b : Bool) → pick (a || b) 1 0 ≤ pick a 1 0 + pick b 1 0
+    one true b = omega arith
+    one false b = omega arith
+
+-- a test that no two numbers pass has one at most
+pub count-once : (n : ℕ) (test : ℕ → Bool) → ((j k : ℕ) → test j ≡ true → test k ≡ true → j ≡ k) → countBelow n test ≤ 1
+unfolding countBelow
+count-once zero test once = omega arith
+count-once (suc n) test once = go (test n) refl (count-once n test once)
+  where
+    others : test n ≡ true → (k : ℕ) → k < n → (b : Bool) → test k ≡ b → test k ≡ false
+    others e k l true h = absurd (let p = once k n h e in omega (arith, l, p))
+    others e k l false h = h
+
+    go : (b : Bool) → test n ≡ b → countBelow n test ≤ 1 → countBelow n test + pick b 1 0 ≤ 1
+    go true e l = let z = none-count n test (λ k h. others e k h (test k) refl) in omega arith
+    go false e l = omega arith

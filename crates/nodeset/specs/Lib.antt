@@ -1,4 +1,5 @@
 pub mod Below
+pub mod Lists
 pub mod Bits
 pub mod Set
 pub mod Stored

@@ -1,9 +1,9 @@
--- What is read from bytes: a mark at the front, and little-endian numbers.
+-- What is read from bytes, a mark at the front and little-endian numbers, and the bytes of a number.
 -- Assumes nothing.
-use mathlib.Core.Path.{_≡_, refl}
-use mathlib.Core.Bool.{Bool, true, false, _&&_, and-false}
+use mathlib.Core.Path.{_≡_, refl, sym, ap, _∙_}
+use mathlib.Core.Bool.{Bool, true, false, _&&_, and-false, false≢true}
 use mathlib.Core.List.{List, [], _∷_}
-use Prim.Native.Nat.{ℕ, zero, suc, _+_, _*_, _≤_, _<_}
+use Prim.Native.Nat.{ℕ, zero, suc, _+_, _*_, _/_, _%_, _≤_, _<_}
 use Prim.Native.String as string
 use Prim.Native.String.{String}
 use Prim.Native.Char.{code}
@@ -27,6 +27,10 @@ beginsWith (m ∷ ms) (b ∷ bs) = eqb b m && beginsWith ms bs
 -- 01: "All 16-bit fields in every file are little-endian."
 abbrev pub wordAt : List ℕ → ℕ → ℕ
 wordAt s i = getD s i 0 + getD s (i + 1) 0 * 256
+
+-- the two bytes of such a field
+abbrev pub wordBytes : ℕ → List ℕ
+wordBytes w = w % 256 ∷ w / 256 ∷ []
 
 -- the like of 32 bits, as a model file's "32-bit little-endian property set"
 abbrev pub word32At : List ℕ → ℕ → ℕ
@@ -53,6 +57,19 @@ begins-differs (m ∷ ms) [] i h k d = refl
 begins-differs (m ∷ ms) (b ∷ bs) zero h k d = rw (ne-eqb b m d)
 begins-differs (m ∷ ms) (b ∷ bs) (suc i) h k d =
     rw (begins-differs ms bs i (le-of-suc-le-suc h) (le-of-suc-le-suc k) d) (and-false (eqb b m))
+
+-- bytes that are the same where the mark stands
+pub begins-front : (m s t : List ℕ) → ((i : ℕ) → i < length m → getD s i 0 ≡ getD t i 0) → length m ≤ length t → beginsWith m s ≡ true
+    → beginsWith m t ≡ true
+begins-front [] s t same l h = refl
+begins-front (m ∷ ms) [] t same l h = absurd (false≢true h)
+begins-front (m ∷ ms) (b ∷ bs) [] same l h = absurd (not-suc-le-zero l)
+begins-front (m ∷ ms) (b ∷ bs) (c ∷ cs) same l h = go (eqb b m) refl h (begins-front ms bs cs (λ i k. same (suc i) (omega arith)) (le-of-suc-le-suc l))
+  where
+    go : (t : Bool) → eqb b m ≡ t → t && beginsWith ms bs ≡ true → (beginsWith ms bs ≡ true → beginsWith ms cs ≡ true)
+        → eqb c m && beginsWith ms cs ≡ true
+    go true e r next = rw (ap (λ (x : ℕ). eqb x m) (sym (same zero (omega arith))) ∙ e) (next r)
+    go false e r next = absurd (false≢true r)
 
 -- all bytes of the mark
 pub begins-same : (m s : List ℕ) → length m ≤ length s → ((i : ℕ) → i < length m → getD s i 0 ≡ getD m i 0) → beginsWith m s ≡ true

@@ -2,3 +2,4 @@ pub mod Choice
 pub mod Cleared
 pub mod Fields
 pub mod Blocks
+pub mod Onto

@@ -1,9 +1,9 @@
 // Bytes that are lent: the mark at the front of a file and little-endian numbers of 16, 32 and 64 bits;
-// blocks of eight bytes in a table; clearing a working area.
+// bytes and 16-bit numbers put at a place, and blocks of eight bytes in a table; clearing a working area.
 ghost use mathlib.Core.Path.{_≡_};
 ghost use Prim.Native.Nat.{_+_, _*_, _≤_, _<_};
 ghost use lib.ListN.{length, replicate};
-ghost use Rattle.wire.specs.Fields.{beginsWith, wordAt, word32At, word64At};
+ghost use Rattle.wire.specs.Fields.{beginsWith, wordAt, wordBytes, word32At, word64At};
 ghost use Rattle.wire.specs.Blocks.{putFrom};
 
 // Whether the slice begins with the mark.
@@ -61,17 +61,32 @@ pub fn word64(s: &[u8], i: usize) -> u64
         + wide(s[i + 7]) * 72057594037927936
 }
 
+// Puts the bytes of a slice at a place of another.
+pub fn copy_at(out: &mut [u8], at: usize, bytes: &[u8])
+    requires { ⌜ at + length (now bytes) ≤ length (now out) ⌝ }
+    ensures { λ r. ⌜ now (out .exit) ≡ putFrom (now (out .entry)) at 0 (now (bytes .entry)) ⌝ }
+{
+    let mut k = 0;
+    while k < bytes.len() {
+        out[at + k] = bytes[k];
+        k += 1;
+    }
+}
+
+// Puts a 16-bit little-endian number at a place of a slice.
+pub fn put_word(out: &mut [u8], at: usize, number: u16)
+    requires { ⌜ at + 2 ≤ length (now out) ⌝ }
+    ensures { λ r. ⌜ now (out .exit) ≡ putFrom (now (out .entry)) at 0 (wordBytes number) ⌝ }
+{
+    copy_at(out, at, &[(number % 256) as u8, (number / 256) as u8]);
+}
+
 // Block i of a table becomes this one.
 pub fn put_block(table: &mut [u8], i: usize, block: [u8; 8])
     requires { ⌜ 8 * (i + 1) ≤ length (now table) ⌝ }
     ensures { λ r. ⌜ now (table .exit) ≡ putFrom (now (table .entry)) (8 * i) 0 block ⌝ }
 {
-    let at = 8 * i;
-    let mut k = 0;
-    while k < 8 {
-        table[at + k] = block[k];
-        k += 1;
-    }
+    copy_at(table, 8 * i, &block);
 }
 
 // Zeroes the slice.

@@ -2,7 +2,10 @@
 -- Assumes nothing.
 use mathlib.Core.Path.{_≡_, refl}
 use mathlib.Core.Bool.{Bool, true, false}
+use mathlib.Core.List.{List}
 use Prim.Native.Nat.{ℕ}
+use lib.ListN.{length}
+use Rattle.wire.specs.Onto.{onto}
 
 -- 01, "Findings": what an operation finds, or "A refusal gives its number and place". A is what the operation finds where it doesn't
 -- refuse, such as n for reading a pattern.
@@ -40,6 +43,16 @@ onward (refuses number place) f = refused number place
 abbrev pub thereupon : {A B : Type 0} → Finding A → (A → Finding B) → Finding B
 thereupon (found value) next = next value
 thereupon (refused number place) next = refused number place
+
+-- What an operation that writes a file finds is the file. 02, Job 4: "success gives the new file's length": the answer is the length
+abbrev pub written : Finding (List ℕ) → Finding ℕ
+written (found file) = found (length file)
+written (refused number place) = refused number place
+
+-- "A refusal leaves the destination unchanged; success .. leaves bytes beyond it unchanged."
+abbrev pub destinationAfter : Finding (List ℕ) → List ℕ → List ℕ
+destinationAfter (found file) out = onto file out
+destinationAfter (refused number place) out = out
 
 -- ---- laws
 

@@ -89,6 +89,12 @@ module _ (check : ℕ → Check) where
       go (inl p) b f = rw p (b .1)
       go (inr l) b f = f l
 
+-- tests that are the same of each number below n are passed alike
+pub some-same : (test other : ℕ → Bool) (n : ℕ) → ((k : ℕ) → k < n → test k ≡ other k) → someBelow n test ≡ someBelow n other
+unfolding someBelow
+some-same test other zero same = refl
+some-same test other (suc n) same = rw (some-same test other n (λ k h. same k (lt-trans h (lt-suc-self n))), same n (lt-suc-self n))
+
 -- checks that are the same of each number below n are the same in turn
 pub each-same : (check other : ℕ → Check) (n : ℕ) → ((k : ℕ) → k < n → check k ≡ other k) → eachBelow n check ≡ eachBelow n other
 unfolding eachBelow

@@ -2,7 +2,7 @@
 -- Assumes nothing.
 use mathlib.Core.Path.{_≡_, refl, sym, ap, _∙_}
 use mathlib.Core.Bool.{Bool, true, false, _&&_, _||_, or-true, or-false}
-use mathlib.Core.Logic.{_⊎_, inl, inr}
+use mathlib.Core.Logic.{_↔_, _⊎_, inl, inr}
 use Prim.Native.Nat.{ℕ}
 use lib.Dec.{eqb}
 use borrow.Author.Tests.{eqb-true, eqb-false, eq-eqb, ne-eqb}
@@ -25,6 +25,12 @@ or-left a b h = rw h
 pub or-right : (a b : Bool) → b ≡ true → a || b ≡ true
 or-right true b h = refl
 or-right false b h = h
+
+-- tests that pass for the same reason are the same
+pub same-tests : (a b : Bool) → (a ≡ true) ↔ (b ≡ true) → a ≡ b
+same-tests true b h = sym (h .0 refl)
+same-tests false true h = h .1 refl
+same-tests false false h = refl
 
 -- what the answer to a test says of a value that is equal to the one that was tested
 pub asked : {A : Type 0} (f : A → Bool) {a b : A} {r t : Bool} → a ≡ b → r ≡ f a → r ≡ t → f b ≡ t
