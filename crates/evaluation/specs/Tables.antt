@@ -24,8 +24,11 @@ rowOf group u = width * group + u
 abbrev pub successorsRow : ℕ → ℕ → ℕ
 successorsRow a u = rowOf a u
 
+abbrev pub successorsRows : ℕ
+successorsRows = width * (maxAxis + 1)
+
 abbrev pub propertyRow : ℕ → ℕ
-propertyRow p = width * (maxAxis + 1) + p
+propertyRow p = successorsRows + p
 
 abbrev pub nameRow : ℕ → ℕ
 nameRow i = propertyRow (maxProperty + 1) + i

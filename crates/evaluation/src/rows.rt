@@ -18,7 +18,10 @@ pub const NAMES: usize = PROPERTIES + (Property::MAX as usize + 1);
 
 pub const NODES: usize = NAMES + (Name::MAX as usize + 1);
 
-// The bytes of the table of a model, and of the table of its values.
+// The bytes of the rows of the successors, which stand first, of the table of a model, and of the table
+// of its values.
+pub const SUCCESSORS_BYTES: usize = NodeSet::BYTES * PROPERTIES;
+
 pub const TABLE_BYTES: usize = NodeSet::BYTES * (NODES + 1);
 
 pub const ALIKE_BYTES: usize = NodeSet::BYTES * (WIDTH * (Channel::MAX as usize + 1));

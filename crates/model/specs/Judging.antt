@@ -27,7 +27,8 @@ use Rattle.model_file.specs.Enums as file
 use Rattle.model_records.specs.Layout.{nodeCount, edgeCount}
 use Rattle.decision.specs.Root.{rootHolds, renamed, judged-renamed}
 use Rattle.model_records.specs.Contents.{isListed, nodeNamed, modelFrom}
-use Rattle.model_records.specs.Order.{Order, any, rising, edgeAt, EdgesRise}
+use Rattle.model_records.specs.declared.Order.{Order}
+use Rattle.model_records.specs.Order.{edgeAt, EdgesRise}
 use Rattle.model_records.specs.Rising.{Ordered, no-repeat}
 use Rattle.model_records.specs.Checks.{modelCheck}
 use Rattle.model_records.specs.Valid.{ValidModel, model-valid, model-accepted, model-unordered, all-named}
@@ -62,7 +63,7 @@ judgingBy order bs ds size = unless (judgingCheck order bs ds size) (judgedOf (m
 
 -- 02, Job 3: "Edges must rise strictly"
 abbrev pub judgingOf : List ℕ → List ℕ → ℕ → Finding Judged
-judgingOf = judgingBy rising
+judgingOf = judgingBy Order.Rising
 
 -- "A refusal leaves the area unchanged; a finding leaves its first 2,040 bytes zero and the rest unchanged."
 abbrev pub areaAfter : List ℕ → Finding Judged → List ℕ → List ℕ
@@ -186,8 +187,8 @@ judging-says bs ds size j = (apart, together)
   where
     apart : judgingOf bs ds size ≡ found j → Judgement bs ds size j
     apart h =
-        let r = found-passes (judgingCheck rising bs ds size) (judgedOf (modelFrom ds) (rootOf bs)) j h in
-        let c = checks-pass rising bs ds size .0 (r .0) in
+        let r = found-passes (judgingCheck Order.Rising bs ds size) (judgedOf (modelFrom ds) (rootOf bs)) j h in
+        let c = checks-pass Order.Rising bs ds size .0 (r .0) in
         record {
           pattern-valid = c .0;
           area-long = c .1;
@@ -199,7 +200,7 @@ judging-says bs ds size j = (apart, together)
 
     together : Judgement bs ds size j → judgingOf bs ds size ≡ found j
     together h =
-        rw (checks-pass rising bs ds size .1 (h .pattern-valid, h .area-long, h .model-valid, h .edges-rise, h .names-listed))
+        rw (checks-pass Order.Rising bs ds size .1 (h .pattern-valid, h .area-long, h .model-valid, h .edges-rise, h .names-listed))
         (ap found (judged-says (modelFrom ds) (all-named (h .model-valid)) (rootOf bs) j .1 (h .says)))
 
 -- ---- what 02's jobs left as it was
@@ -223,7 +224,7 @@ pub nameless-as-before : (order : Order) (bs ds : List ℕ) (size : ℕ) → ((i
 nameless-as-before order bs ds size none = listed-as-before order bs ds size (λ i used. absurd (false≢true (sym (none i) ∙ used)))
 
 -- a model whose edges rise, as G's do, is judged as without 02's Job 3, refusals included
-pub rising-as-before : (bs ds : List ℕ) (size : ℕ) → EdgesRise ds → judgingOf bs ds size ≡ judgingBy any bs ds size
+pub rising-as-before : (bs ds : List ℕ) (size : ℕ) → EdgesRise ds → judgingOf bs ds size ≡ judgingBy Order.Any bs ds size
 unfolding judgingBy judgingCheck
 rising-as-before bs ds size h = rw (model-unordered ds h)
 
@@ -251,12 +252,12 @@ root-judged bs {ds} ok s same =
     (λ k l. same k ∙ rw (le-ltb k (nodeCount ds) l))
 
 -- what is found where the checks pass, and where they don't
-pub judging-finds : (bs ds : List ℕ) (size : ℕ) → judgingCheck rising bs ds size ≡ passes
+pub judging-finds : (bs ds : List ℕ) (size : ℕ) → judgingCheck Order.Rising bs ds size ≡ passes
     → judgingOf bs ds size ≡ found (judgedOf (modelFrom ds) (rootOf bs))
 unfolding judgingBy
 judging-finds bs ds size h = rw h
 
-pub judging-refuses : (bs ds : List ℕ) (size number place : ℕ) → judgingCheck rising bs ds size ≡ refuses number place
+pub judging-refuses : (bs ds : List ℕ) (size number place : ℕ) → judgingCheck Order.Rising bs ds size ≡ refuses number place
     → judgingOf bs ds size ≡ refused number place
 unfolding judgingBy
 judging-refuses bs ds size number place h = rw h

@@ -4,6 +4,7 @@ use model_file::ModelCheck;
 use model_file::ModelRefusal;
 use model_file::check;
 use model_file::listed_names;
+use model_records::Order;
 use model_tables::root_nodes;
 use names::used_names;
 use nodeset::NodeSet;
@@ -18,7 +19,7 @@ ghost use Rattle.nodeset.specs.Set.{width, has};
 ghost use Rattle.pattern.specs.Checks.Finding.{found};
 ghost use Rattle.pattern.specs.File.Reading.{readingOf};
 ghost use Rattle.decision.specs.Judged.{judgedBy};
-ghost use Rattle.model_records.specs.Order.{rising};
+ghost use Rattle.model_records.specs.declared.Order.{Order};
 ghost use Rattle.model_records.specs.Valid.{ValidModel};
 ghost use Rattle.model.specs.Judging.{namesCheck, judgingCheck, judgingOf, areaAfter, refusalNumber, refusalPlace, checkOf, findingOf};
 
@@ -90,7 +91,7 @@ fn check_listed(p: &[u8], n: u8, d: &[u8]) -> JudgeCheck
 
 // All refusals, in their order, for a working area of this many bytes.
 fn check_all(p: &[u8], d: &[u8], size: usize) -> JudgeCheck
-    ensures { λ r. ⌜ checkOf r ≡ judgingCheck rising (now (p .entry)) (now (d .entry)) size ⌝ }
+    ensures { λ r. ⌜ checkOf r ≡ judgingCheck Order.Rising (now (p .entry)) (now (d .entry)) size ⌝ }
 {
     let n = match read(p) {
         PatternRead::Refused(refusal) => {
@@ -101,7 +102,7 @@ fn check_all(p: &[u8], d: &[u8], size: usize) -> JudgeCheck
     if size < AREA {
         return JudgeCheck::Refused(JudgeRefusal::Area);
     }
-    if let ModelCheck::Refused(refusal) = check(d) {
+    if let ModelCheck::Refused(refusal) = check(d, Order::Rising) {
         return JudgeCheck::Refused(JudgeRefusal::Model(refusal));
     }
     check_listed(p, n, d)

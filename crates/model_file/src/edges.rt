@@ -1,6 +1,8 @@
-// The checks of the edge records: in each of them document 01's refusal 14, and then document 02's 28.
+// The checks of the edge records: in each of them document 01's refusal 14, and then, where edges must
+// rise, document 02's 28.
 use crate::refusal::ModelCheck;
 use crate::refusal::ModelRefusal;
+use model_records::Order;
 use model_records::edge_axis;
 use model_records::edge_count;
 use model_records::edge_from;
@@ -9,14 +11,14 @@ use model_records::node_count;
 use pattern::types::Axis;
 use pattern::types::AxisMade;
 ghost use mathlib.Core.Path.{_≡_};
-ghost use Prim.Native.Nat.{_+_, _≤_};
+ghost use Prim.Native.Nat.{_+_, _≤_, _<_};
 ghost use lib.ListN.{length};
 ghost use lib.Dec.{leb};
 ghost use Rattle.pattern.specs.File.Types.{maxAxis};
 ghost use Rattle.pattern.specs.Checks.Range.{eachBelow};
 ghost use Rattle.model_records.specs.Layout.{edgeCount, edgeRecord, lengthOf};
-ghost use Rattle.model_records.specs.Order.{edgeAt, rising};
-ghost use Rattle.model_records.specs.Rising.{rankOf};
+ghost use Rattle.model_records.specs.Order.{edgeAt};
+ghost use Rattle.model_records.specs.Rising.{rankOf, leastBehind};
 ghost use Rattle.model_records.specs.Checks.{edgeCheck, recordCheck};
 ghost use Rattle.model_file.specs.Enums.{checkOf};
 
@@ -58,11 +60,22 @@ fn edge_rank(d: &[u8], i: u16) -> u32
     (from * 256 + axis) * 256 + to
 }
 
-// Refusals 14 and 28 of the edge records, in their order. A record must come after the one before it:
-// its number is at least one higher.
-pub fn check_edges(d: &[u8]) -> ModelCheck
+// The least number that the record behind one of this number may have: any, or where edges must rise
+// one higher.
+fn least_behind(order: Order, rank: u32) -> u32
+    requires { ⌜ rank < 16777216 ⌝ }
+    ensures { λ r. ⌜ r ≡ leastBehind order rank ⌝ }
+{
+    match order {
+        Order::Any => 0,
+        Order::Rising => rank + 1,
+    }
+}
+
+// Refusals 14 and, where edges must rise, 28 of the edge records, in their order.
+pub fn check_edges(d: &[u8], order: Order) -> ModelCheck
     requires { ⌜ length (now d) ≡ lengthOf (now d) ⌝ }
-    ensures { λ r. ⌜ checkOf r ≡ eachBelow (edgeCount (now (d .entry))) (recordCheck rising (now (d .entry))) ⌝ }
+    ensures { λ r. ⌜ checkOf r ≡ eachBelow (edgeCount (now (d .entry))) (recordCheck order (now (d .entry))) ⌝ }
 {
     let k = edge_count(d);
     let mut least = 0;
@@ -75,7 +88,7 @@ pub fn check_edges(d: &[u8]) -> ModelCheck
         if rank < least {
             return ModelCheck::Refused(ModelRefusal::Order(i));
         }
-        least = rank + 1;
+        least = least_behind(order, rank);
         i += 1;
     }
     ModelCheck::Passed

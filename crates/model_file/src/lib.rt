@@ -1,10 +1,11 @@
-// The checks of a model file, document 01's refusals 10 to 14 and document 02's 28, in their order, and
-// the names that it lists. Each check answers that it passed or the refusal, and the first refusal
-// decides.
+// The checks of a model file, document 01's refusals 10 to 14 and, where its edges must rise, document
+// 02's 28, in their order, and the names that it lists. Each check answers that it passed or the
+// refusal, and the first refusal decides.
 mod edges;
 mod refusal;
 
 use edges::check_edges;
+use model_records::Order;
 use model_records::edge_count;
 use model_records::edge_record;
 use model_records::name_count;
@@ -25,7 +26,6 @@ ghost use Rattle.pattern.specs.File.Types.{maxName};
 ghost use Rattle.names.specs.Set.{SetOf};
 ghost use Rattle.pattern.specs.Checks.Range.{eachBelow};
 ghost use Rattle.model_records.specs.Layout.{nameCount, nameRecord, lengthOf};
-ghost use Rattle.model_records.specs.Order.{rising};
 ghost use Rattle.model_records.specs.Checks.{countsWrong, headerCheck, repeatsName, nameCheck, modelCheck};
 ghost use Rattle.model_file.specs.Enums.{checkOf};
 ghost use Rattle.model_records.specs.Contents.{isListed};
@@ -137,9 +137,10 @@ fn check_names(d: &[u8]) -> ModelCheck
     ModelCheck::Passed
 }
 
-// Checks a model file: any bytes of any length pass, or give the first refusal.
-pub fn check(d: &[u8]) -> ModelCheck
-    ensures { λ r. ⌜ checkOf r ≡ modelCheck rising (now (d .entry)) ⌝ }
+// Checks a model file whose edges must stand so: any bytes of any length pass, or give the first
+// refusal.
+pub fn check(d: &[u8], order: Order) -> ModelCheck
+    ensures { λ r. ⌜ checkOf r ≡ modelCheck order (now (d .entry)) ⌝ }
 {
     if let ModelCheck::Refused(refusal) = check_header(d) {
         return ModelCheck::Refused(refusal);
@@ -147,7 +148,7 @@ pub fn check(d: &[u8]) -> ModelCheck
     if let ModelCheck::Refused(refusal) = check_names(d) {
         return ModelCheck::Refused(refusal);
     }
-    check_edges(d)
+    check_edges(d, order)
 }
 
 // The names that a file that passed its checks lists.

@@ -10,7 +10,8 @@ use Rattle.pattern.specs.File.Types.{maxName, maxAxis}
 use Rattle.pattern.specs.Checks.Finding.{Check, refusesIf, _then_}
 use Rattle.pattern.specs.Checks.Range.{someBelow, eachBelow}
 use Rattle.model_records.specs.Layout.{mark, nodeCount, maxNodes, nameCount, maxNames, edgeCount, maxEdges, lengthOf, nameOf, nodeOfRecord, fromOf, axisOf, toOf}
-use Rattle.model_records.specs.Order.{Order, inOrder}
+use Rattle.model_records.specs.declared.Order.{Order}
+use Rattle.model_records.specs.Order.{inOrder}
 
 -- "10: under 9 bytes or wrong mark."
 abbrev pub markCheck : List ℕ → Check

@@ -1,5 +1,6 @@
 -- The finite model that a model file stands for, and which names it lists.
 -- Assumes nothing.
+use mathlib.Core.Path.{_≡_}
 use mathlib.Core.Bool.{Bool, _&&_}
 use mathlib.Core.List.{List}
 use Prim.Native.Nat.{ℕ, _^_, _/_, _%_}
@@ -19,6 +20,10 @@ recordLeads ds a u v i = eqb (fromOf ds i) u && (eqb (axisOf ds i) a && eqb (toO
 -- definition still; 02's Job 3 amends it to edges that rise, and its Job 4 takes older files as 01 has them
 unfoldable pub leadsIn : List ℕ → ℕ → ℕ → ℕ → Bool
 leadsIn ds a u v = someBelow (edgeCount ds) (recordLeads ds a u v)
+
+-- the models of two files have the same edges
+abbrev pub SameEdges : List ℕ → List ℕ → Type 0
+SameEdges ds es = (a u v : ℕ) → leadsIn ds a u v ≡ leadsIn es a u v
 
 -- 01: "bit p for property p": property p is in the set of node u
 abbrev pub hasProperty : List ℕ → ℕ → ℕ → Bool

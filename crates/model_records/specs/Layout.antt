@@ -1,9 +1,11 @@
 -- The layout of a model file: its header, and where each field of its records stands.
 -- Assumes nothing.
+use mathlib.Core.Path.{_≡_}
 use mathlib.Core.List.{List}
-use Prim.Native.Nat.{ℕ, _+_, _*_}
+use Prim.Native.Nat.{ℕ, _+_, _*_, _<_}
 use lib.ListN.{getD}
-use Rattle.wire.specs.Fields.{text, wordAt, word32At}
+use Rattle.wire.specs.Fields.{text, wordAt, wordBytes, word32At}
+use Rattle.wire.specs.Blocks.{putFrom}
 
 -- 01: "Mark `DAT`"
 abbrev pub mark : List ℕ
@@ -26,6 +28,10 @@ maxNames = 128
 -- 01: "16-bit edge count k (up to 4096)"
 abbrev pub edgeCount : List ℕ → ℕ
 edgeCount ds = wordAt ds 7
+
+-- the file with k as that count
+abbrev pub withEdgeCount : List ℕ → ℕ → List ℕ
+withEdgeCount ds k = putFrom ds 7 0 (wordBytes k)
 
 abbrev pub maxEdges : ℕ
 maxEdges = 4096
@@ -72,3 +78,7 @@ axisOf ds i = getD ds (edgeRecord ds i + 1) 0
 
 abbrev pub toOf : List ℕ → ℕ → ℕ
 toOf ds i = getD ds (edgeRecord ds i + 2) 0
+
+-- 02, Job 4: "nodes and names copied as they are": the same bytes stand before the edge records of two files, but for the count of the edges
+abbrev pub SameFront : List ℕ → List ℕ → Type 0
+SameFront ds es = (k : ℕ) → k < edgeRecord ds 0 → (k ≡ 7 → ⊥) → (k ≡ 8 → ⊥) → getD ds k 0 ≡ getD es k 0

@@ -4,5 +4,6 @@ pub mod Contents
 pub mod Order
 pub mod Checks
 pub mod Rising
-pub mod OneFile
 pub mod Valid
+pub mod Front
+pub mod OneFile

@@ -18,7 +18,8 @@ use Rattle.pattern.specs.Checks.Tests.{or-is-false, and-is-true}
 use Rattle.pattern.specs.Checks.Finding.{passes, refuses, _then_, then-passes, passes-last, refusesIf-passes}
 use Rattle.pattern.specs.Checks.Range.{eachBelow, each-at, each-below, each-first, each-same, none-at, none-below, some-at, some-found}
 use Rattle.model_records.specs.Layout.{mark, nodeCount, maxNodes, nameCount, maxNames, edgeCount, maxEdges, lengthOf, nameOf, nodeOfRecord, fromOf, axisOf, toOf}
-use Rattle.model_records.specs.Order.{Order, any, rising, EdgesRise, inOrder}
+use Rattle.model_records.specs.declared.Order.{Order}
+use Rattle.model_records.specs.Order.{EdgesRise, inOrder}
 use Rattle.model_records.specs.Rising.{Ordered, ordered, in-order}
 use Rattle.model_records.specs.Contents.{recordLeads, leadsIn, recordLists, isListed, recordOfName, nodeNamed, modelFrom}
 use Rattle.model_records.specs.Checks.{markCheck, versionCheck, countCheck, headerCheck, repeatsName, nameCheck, edgeCheck, orderCheck, recordCheck, modelCheck}
@@ -194,20 +195,20 @@ model-accepted order ds h o =
     )
 
 -- where the edges rise, the checks are those of files in any order
-pub model-unordered : (ds : List ℕ) → EdgesRise ds → modelCheck rising ds ≡ modelCheck any ds
+pub model-unordered : (ds : List ℕ) → EdgesRise ds → modelCheck Order.Rising ds ≡ modelCheck Order.Any ds
 unfolding modelCheck recordCheck orderCheck
-model-unordered ds h = rw (each-same (recordCheck rising ds) (recordCheck any ds) (edgeCount ds) same)
+model-unordered ds h = rw (each-same (recordCheck Order.Rising ds) (recordCheck Order.Any ds) (edgeCount ds) same)
   where
-    same : (i : ℕ) → i < edgeCount ds → recordCheck rising ds i ≡ recordCheck any ds i
-    same i l = rw (in-order rising ds h i l)
+    same : (i : ℕ) → i < edgeCount ds → recordCheck Order.Rising ds i ≡ recordCheck Order.Any ds i
+    same i l = rw (in-order Order.Rising ds h i l)
 
 -- in any order they are 01's own, 10 to 14 without 28
 pub model-any : (ds : List ℕ)
-    → modelCheck any ds ≡ headerCheck ds then eachBelow (nameCount ds) (nameCheck ds) then eachBelow (edgeCount ds) (edgeCheck ds)
+    → modelCheck Order.Any ds ≡ headerCheck ds then eachBelow (nameCount ds) (nameCheck ds) then eachBelow (edgeCount ds) (edgeCheck ds)
 unfolding modelCheck recordCheck orderCheck
-model-any ds = rw (each-same (recordCheck any ds) (edgeCheck ds) (edgeCount ds) same)
+model-any ds = rw (each-same (recordCheck Order.Any ds) (edgeCheck ds) (edgeCount ds) same)
   where
-    same : (i : ℕ) → i < edgeCount ds → recordCheck any ds i ≡ edgeCheck ds i
+    same : (i : ℕ) → i < edgeCount ds → recordCheck Order.Any ds i ≡ edgeCheck ds i
     same i l = passes-last (edgeCheck ds i)
 
 -- the model of a valid file

@@ -1,11 +1,20 @@
-// The counts of a model file, where its records stand, and the fields of the records. The readers of
-// fields are for files that are long enough.
+// The counts of a model file, where its records stand, and the fields of the records, read and, of its
+// edges, written. The readers and writers are for files that are long enough.
 ghost use mathlib.Core.Path.{_≡_};
+ghost use mathlib.Core.List.{[], _∷_};
 ghost use Prim.Native.Nat.{_+_, _≤_};
 ghost use lib.ListN.{length};
+ghost use Rattle.wire.specs.Blocks.{putFrom};
 ghost use Rattle.pattern.specs.File.Types.{maxProperty, maxChannel};
-ghost use Rattle.model_records.specs.Layout.{nodeCount, nameCount, edgeCount, nodeRecord, nameRecord, edgeRecord, valueOn, nameOf, nodeOfRecord, fromOf, axisOf, toOf};
+ghost use Rattle.model_records.specs.Layout.{nodeCount, nameCount, edgeCount, withEdgeCount, nodeRecord, nameRecord, edgeRecord, valueOn, nameOf, nodeOfRecord, fromOf, axisOf, toOf};
 ghost use Rattle.model_records.specs.Contents.{hasProperty};
+
+// How the edges of a model file must stand: in any order, as document 01 has it, or rising, as document
+// 02 has it.
+pub enum Order {
+    Any,
+    Rising,
+}
 
 // The count of the nodes.
 pub fn node_count(d: &[u8]) -> u8
@@ -116,4 +125,20 @@ pub fn edge_to(d: &[u8], i: u16) -> u8
 {
     let at = edge_record(d, i);
     d[at + 2]
+}
+
+// The count of the edge records becomes k.
+pub fn put_edge_count(d: &mut [u8], k: u16)
+    requires { ⌜ 9 ≤ length (now d) ⌝ }
+    ensures { λ _. ⌜ now (d .exit) ≡ withEdgeCount (now (d .entry)) k ⌝ }
+{
+    wire::put_word(d, 7, k);
+}
+
+// The edge record at this place becomes that of an edge.
+pub fn put_edge(d: &mut [u8], at: usize, from: u8, axis: u8, to: u8)
+    requires { ⌜ at + 3 ≤ length (now d) ⌝ }
+    ensures { λ _. ⌜ now (d .exit) ≡ putFrom (now (d .entry)) at 0 (from ∷ axis ∷ to ∷ []) ⌝ }
+{
+    wire::copy_at(d, at, &[from, axis, to]);
 }

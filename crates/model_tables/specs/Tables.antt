@@ -18,7 +18,7 @@ use Rattle.nodeset.specs.Stored.{tableBytes, setAt, put, put-same, put-other}
 use Rattle.pattern.specs.File.Types.{maxAxis, maxProperty, maxName, maxChannel}
 use Rattle.pattern.specs.Checks.Tests.{and-is-true, turned}
 use Rattle.pattern.specs.Checks.Range.{someBelow}
-use Rattle.evaluation.specs.Tables.{successorsRow, propertyRow, nameRow, nodesRow, modelRows, alikeRow, Tabled, Alike}
+use Rattle.evaluation.specs.Tables.{successorsRow, successorsRows, propertyRow, nameRow, nodesRow, modelRows, alikeRow, Tabled, Alike}
 use Rattle.model_records.specs.Layout.{nodeCount, nameCount, edgeCount, valueOn, nameOf, nodeOfRecord, fromOf, axisOf, toOf}
 use Rattle.model_records.specs.Contents.{recordLeads, leadsIn, hasProperty, isListed, modelFrom}
 use Rattle.model_records.specs.Valid.{ValidModel, all-named, edge-in, listed, unlisted, listed-found, unlisted-none}
@@ -114,7 +114,7 @@ module _ (ds : List ℕ) where
 
   -- the next record: its node is in the row of its axis and its first node
   pub linked-more : (k : ℕ) (xs ys : List ℕ) → fromOf ds k < width → axisOf ds k ≤ maxAxis → toOf ds k < width
-      → tableBytes modelRows ≤ length ys → Linked ds k xs ys → Linked ds (k + 1) xs (linkOf ds k ys)
+      → tableBytes successorsRows ≤ length ys → Linked ds k xs ys → Linked ds (k + 1) xs (linkOf ds k ys)
   unfolding someBelow
   linked-more k xs ys from axis to l f =
       subst (λ (n : ℕ). Linked ds n xs (linkOf ds k ys)) (sym (add-one k)) (record { rows = each; rest = other })

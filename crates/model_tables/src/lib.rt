@@ -30,7 +30,7 @@ ghost use Rattle.pattern.specs.Checks.Finding.{found};
 ghost use Rattle.pattern.specs.File.Types.{maxProperty, maxChannel};
 ghost use Rattle.pattern.specs.File.Reading.{countOf, readingOf};
 ghost use Rattle.decision.specs.Root.{rootHolds};
-ghost use Rattle.evaluation.specs.Tables.{propertyRow, modelRows, alikeRow, alikeRows, IsSet, Tabled, Alike};
+ghost use Rattle.evaluation.specs.Tables.{successorsRows, propertyRow, modelRows, alikeRow, alikeRows, IsSet, Tabled, Alike};
 ghost use Rattle.evaluation.specs.Standing.{areaBytes};
 ghost use Rattle.model_records.specs.Layout.{nodeCount, edgeCount, valueOn};
 ghost use Rattle.model_records.specs.Contents.{hasProperty, modelFrom};
@@ -98,7 +98,7 @@ fn list_names(d: &[u8], table: &mut [u8])
 // The row of edge record i, that of its axis and of the node it leads from, gets the node it leads to.
 fn add_edge(d: &[u8], table: &mut [u8], i: u16)
     requires { ⌜ ValidModel (now d) ⌝ }
-    requires { ⌜ tableBytes modelRows ≤ length (now table) ⌝ }
+    requires { ⌜ tableBytes successorsRows ≤ length (now table) ⌝ }
     requires { ⌜ i < edgeCount (now d) ⌝ }
     ensures { λ r. ⌜ now (table .exit) ≡ linkOf (now (d .entry)) i (now (table .entry)) ⌝ }
 {
@@ -109,10 +109,10 @@ fn add_edge(d: &[u8], table: &mut [u8], i: u16)
     grown.store(table, row);
 }
 
-// The rows of the successors get the edges.
-fn fill_successors(d: &[u8], table: &mut [u8])
+// The rows of the successors get the edges; they are empty before.
+pub fn fill_successors(d: &[u8], table: &mut [u8])
     requires { ⌜ ValidModel (now d) ⌝ }
-    requires { ⌜ tableBytes modelRows ≤ length (now table) ⌝ }
+    requires { ⌜ tableBytes successorsRows ≤ length (now table) ⌝ }
     requires { ⌜ ((i u : ℕ) → has (setAt (now table) i) u ≡ false) ⌝ }
     ensures { λ r. ⌜ Linked (now (d .entry)) (edgeCount (now (d .entry))) (now (table .entry)) (now (table .exit)) ⌝ }
 {

@@ -7,7 +7,7 @@ use mathlib.Core.Path.{_≡_, sym, _∙_, ap}
 use Rattle.pattern.specs.Checks.Finding.{found, passes}
 use Rattle.pattern.specs.File.Reading.{patternCheck, readingOf, findingOf}
 use Rattle.pattern.specs.File.Valid.{read-passes, read-refuses}
-use Rattle.model_records.specs.Order.{rising}
+use Rattle.model_records.specs.declared.Order.{Order}
 use Rattle.model_records.specs.Checks.{modelCheck}
 use Rattle.model_file.specs.Enums.{checkOf}
 use Rattle.model_records.specs.Valid.{model-valid}
@@ -58,7 +58,7 @@ enum-told : tie.Need-enum-told
 enum-told c = search needs
 
 model-passed : (c : tie.After-enum-told)
-    → modelCheck rising (c .before .before .before .before .before .before .before .before .before .before .args .d .now) ≡ passes
+    → modelCheck Order.Rising (c .before .before .before .before .before .before .before .before .before .before .args .d .now) ≡ passes
 model-passed c = sym (c .before .before .check .ensures) ∙ ap checkOf (c .enum-told .given .1)
 
 check-listed-requires : tie.Need-check-listed-requires

@@ -7,7 +7,7 @@ use lib.ListN.{length, take}
 use Rattle.wire.specs.Cleared.{front-length, cleared-front}
 use Rattle.pattern.specs.Checks.Finding.{found, passes}
 use Rattle.pattern.specs.File.Valid.{valid-read}
-use Rattle.model_records.specs.Order.{rising}
+use Rattle.model_records.specs.declared.Order.{Order}
 use Rattle.model.specs.Judging.{areaNeed, judgingCheck, Allowed, checkOf, checks-pass, judging-finds, judging-refuses, root-judged}
 use Rattle.model.proofs.judge.judge.Statement.{statement}
 use Rattle.model.proofs.judge.judge.Tie as tie
@@ -32,15 +32,15 @@ enum-told c = search needs
 -- nothing is to be refused where the function goes on
 checked : (c : tie.After-enum-told)
     → let a = c .before .before .before .before .before .before .args in
-    judgingCheck rising (a .p .now) (a .d .now) (length (a .area .now)) ≡ passes
+    judgingCheck Order.Rising (a .p .now) (a .d .now) (length (a .area .now)) ≡ passes
 checked c = sym (c .before .before .check-all .ensures) ∙ ap checkOf (c .enum-told .given .1)
 
 allowed : (c : tie.After-enum-told)
     → let a = c .before .before .before .before .before .before .args in
-    Allowed rising (a .p .now) (a .d .now) (length (a .area .now))
+    Allowed Order.Rising (a .p .now) (a .d .now) (length (a .area .now))
 allowed c =
     let a = c .before .before .before .before .before .before .args in
-    checks-pass rising (a .p .now) (a .d .now) (length (a .area .now)) .0 (checked c)
+    checks-pass Order.Rising (a .p .now) (a .d .now) (length (a .area .now)) .0 (checked c)
 
 slice-relend-prefix-root-nodes : tie.Need-slice-relend-prefix-root-nodes
 slice-relend-prefix-root-nodes c = allowed c .1

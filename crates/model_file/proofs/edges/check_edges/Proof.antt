@@ -4,7 +4,7 @@
 use borrow.Author.Needs.{needs}
 use borrow.Author.Count.{below-none, below-more}
 use borrow.Author.Tests.{lt-ltb, le-ltb}
-use Prim.Native.Nat.{ℕ, _+_, _-_, _≤_, _<_}
+use Prim.Native.Nat.{ℕ, _-_, _≤_, _<_}
 use mathlib.Core.Path.{_≡_, refl, sym, ap, ap₂, _∙_}
 use mathlib.Core.Bool.{Bool, true, false, not}
 use native.Mathlib.Omega.{arith}
@@ -12,8 +12,8 @@ use lib.Dec.{ltb}
 use lib.ListN.{getD}
 use Rattle.pattern.specs.Checks.Finding.{passes}
 use Rattle.pattern.specs.Checks.Range.{each-below, each-first}
-use Rattle.model_records.specs.Order.{rising, inOrder}
-use Rattle.model_records.specs.Rising.{leastAt, least-next, rank-narrow, rising-ranked}
+use Rattle.model_records.specs.Order.{inOrder}
+use Rattle.model_records.specs.Rising.{leastBehind, leastAt, least-next, rank-narrow, order-ranked}
 use Rattle.model_records.specs.Checks.{edgeCheck, recordCheck}
 use Rattle.model_file.specs.Enums.{checkOf}
 use Rattle.model_records.specs.Valid.{edge-decides, order-refuses, order-passes}
@@ -21,10 +21,10 @@ use Rattle.model_file.proofs.edges.check_edges.Statement.{statement}
 use Rattle.model_file.proofs.edges.check_edges.Tie as tie
 
 abbrev Inv-loop : tie.InvT-loop
-Inv-loop d k least₀ i₀ least i = (i ≤ k) × ((j : ℕ) → j < i → recordCheck rising d j ≡ passes) × (least ≡ leastAt d i)
+Inv-loop d order k least₀ i₀ least i = (i ≤ k) × ((j : ℕ) → j < i → recordCheck order d j ≡ passes) × (least ≡ leastAt order d i)
 
 abbrev μ-loop : tie.MeasureT-loop
-μ-loop d k least₀ i₀ least i = k - i
+μ-loop d order k least₀ i₀ least i = k - i
 
 edge-count-requires : tie.Need-edge-count-requires Inv-loop μ-loop
 edge-count-requires c κs = search needs
@@ -44,7 +44,7 @@ returns c =
     let l = e .before .before in
     sym
     (each-first _ _ (l .loop .i) _ _ (rw (l .before .edge-count .ensures) at (e .before .loop-test .taken)) (l .loop .inv .1)
-    (edge-decides rising _ _ _ _ (sym (e .check-edge .ensures) ∙ ap checkOf (c .before .refusal .given .1))))
+    (edge-decides _ _ _ _ _ (sym (e .check-edge .ensures) ∙ ap checkOf (c .before .refusal .given .1))))
 
 enum-told : tie.Need-enum-told Inv-loop μ-loop
 enum-told c = search needs
@@ -65,10 +65,12 @@ in-range c = let e = c .before in sym (e .before .before .check-edge .ensures) �
 -- and stands in order where its number isn't below the least
 ranked : (c : tie.After-edge-rank Inv-loop μ-loop) (t : Bool)
     → let l = c .before .before .before .before .before in
-    ltb (c .edge-rank .result) (l .loop .least) ≡ t → inOrder rising (l .before .before .before .args .d .now) (l .loop .i) ≡ not t
+    let a = l .before .before .before .args in
+    ltb (c .edge-rank .result) (l .loop .least) ≡ t → inOrder (a .order) (a .d .now) (l .loop .i) ≡ not t
 ranked c t h =
     let l = c .before .before .before .before .before in
-    rising-ranked _ (bytes (l .before .before)) (l .loop .i) ∙ ap not (ap₂ ltb (sym (c .edge-rank .ensures)) (sym (l .loop .inv .2)) ∙ h)
+    order-ranked _ (bytes (l .before .before)) (l .before .before .before .args .order) (l .loop .i)
+    ∙ ap not (ap₂ ltb (sym (c .edge-rank .ensures)) (sym (l .loop .inv .2)) ∙ h)
 
 returns-2 : tie.Need-returns-2 Inv-loop μ-loop
 returns-2 c =
@@ -77,14 +79,13 @@ returns-2 c =
     let l = i .before in
     sym
     (each-first _ _ (l .loop .i) _ _ (rw (l .before .edge-count .ensures) at (i .loop-test .taken)) (l .loop .inv .1)
-    (order-refuses rising _ _ (in-range r) (ranked r true (lt-ltb _ _ (c .if1 .taken)))))
+    (order-refuses _ _ _ (in-range r) (ranked r true (lt-ltb _ _ (c .if1 .taken)))))
 
-add-least : tie.Need-add-least Inv-loop μ-loop
-add-least c =
+least-behind-requires : tie.Need-least-behind-requires Inv-loop μ-loop
+least-behind-requires c κs =
     let r = c .before in
     let l = r .before .before .before .before .before in
-    let small = rank-narrow (l .before .before .before .args .d .now) (bytes (l .before .before)) (l .loop .i) in
-    omega (arith, small, r .edge-rank .ensures)
+    rw (r .edge-rank .ensures) (rank-narrow (l .before .before .before .args .d .now) (bytes (l .before .before)) (l .loop .i))
 
 add-i : tie.Need-add-i Inv-loop μ-loop
 add-i c = search needs
@@ -94,11 +95,12 @@ loop-less c = search needs
 
 loop-again : tie.Need-loop-again Inv-loop μ-loop
 loop-again c =
-    let r = c .before in
-    let l = r .before .before .before .before .before in (
+    let r = c .before .before in
+    let l = r .before .before .before .before .before in
+    let order = l .before .before .before .args .order in (
       search needs,
-      below-more _ _ (l .loop .inv .1) (order-passes rising _ _ (in-range r) (ranked r false (le-ltb _ _ (c .if1 .left)))),
-      ap (λ (n : ℕ). n + 1) (r .edge-rank .ensures) ∙ sym (least-next _ (l .loop .i)),
+      below-more _ _ (l .loop .inv .1) (order-passes _ _ _ (in-range r) (ranked r false (le-ltb _ _ (c .before .if1 .left)))),
+      c .least-behind .ensures ∙ ap (leastBehind order) (r .edge-rank .ensures) ∙ sym (least-next order _ (l .loop .i)),
     )
 
 returns-3 : tie.Need-returns-3 Inv-loop μ-loop
@@ -118,7 +120,7 @@ check-edges-spec =
     enum-told
     edge-rank-requires
     returns-2
-    add-least
+    least-behind-requires
     add-i
     loop-less
     loop-again
