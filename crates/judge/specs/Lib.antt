@@ -1,6 +1,4 @@
 -- In the order of reading: definitions, then what is proved of them.
 pub mod Promises
-pub mod Packed
-pub mod Unpacked
 pub mod Together
-pub mod Narrow
+pub mod Told

@@ -1,5 +1,5 @@
 -- 01's bench readings A to J, and examples of 02's jobs, in one list, shown of the definitions by one result: what the program prints, what
--- reading a pattern gives, and what judging every model gives.
+-- reading a pattern gives, what judging every model gives, and what putting a file in order gives.
 -- Assumes nothing.
 use mathlib.Core.Path.{_≡_, refl, sym, _∙_, ap, subst}
 use mathlib.Core.Bool.{false, false≢true}
@@ -7,12 +7,14 @@ use mathlib.Core.Logic.{_⊎_, inl, inr}
 use mathlib.Core.List.{List, [], _∷_, _++_}
 use Prim.Native.Nat.{ℕ, _≤_}
 use Prim.Native.String.{String}
+use lib.ListN.{replicate}
 use Rattle.nodeset.specs.Below.{lowestBelow, countBelow}
+use Rattle.nodeset.specs.Lists.{listBelow}
 use Rattle.pattern.specs.declared.types.Comparison.{Comparison}
 use Rattle.pattern.specs.Logic.Syntax.{NExp}
 use Rattle.pattern.specs.Logic.Semantics.{Model, Naming, Holds}
 use Rattle.pattern.specs.Logic.Finite.{Finite, Named, modelOf, namingOf}
-use Rattle.pattern.specs.Checks.Finding.{found, refused, Check, passes, refuses}
+use Rattle.pattern.specs.Checks.Finding.{found, refused, Check, passes, refuses, destinationAfter}
 use Rattle.pattern.specs.Checks.Range.{someBelow, eachBelow}
 use Rattle.pattern.specs.File.Fields.{eachField}
 use Rattle.pattern.specs.File.Entries.{sameBytes}
@@ -24,17 +26,21 @@ use Rattle.decision.specs.Judged.{unmet, judgedBy, judgedOf, judged-says}
 use Rattle.pattern.specs.Meaning.Names.{usesName}
 use Rattle.model_records.specs.Layout as layout
 use Rattle.model_records.specs.Contents.{leadsIn, isListed, nodeNamed, modelFrom}
-use Rattle.model_records.specs.Order.{EdgesRise, comesBefore, rising}
+use Rattle.model_records.specs.declared.Order.{Order}
+use Rattle.model_records.specs.Order.{EdgesRise, comesBefore}
 use Rattle.model_records.specs.Checks as file
 use Rattle.model_records.specs.Checks.{nameCheck, edgeCheck, orderCheck, recordCheck, modelCheck}
 use Rattle.model_records.specs.Valid.{ValidModel, all-named}
 use Rattle.model.specs.Judging.{areaNeed, namesCheck, judgingCheck, judgingBy, judgingOf, NamesListed, checks-pass, judging-finds, judging-refuses}
+use Rattle.model_order.specs.NewFile.{edgesOf, frontOf, orderedFile}
+use Rattle.model_order.specs.Ordering.{fileWithin, orderingOf}
 use Rattle.lines.specs.Lines.{branchHas}
 use Rattle.rules.specs.Rules.{ruleAt}
 use Rattle.steps.specs.Steps.{stepAt, stepsFrom, stepping}
 use Rattle.tableau.specs.Run.{run}
 use Rattle.tableau.specs.Judging as tableau
 use Rattle.wire.specs.Fields.{text}
+use Rattle.wire.specs.Onto.{onto}
 use Rattle.report.specs.Line.{digitsWithin, lineFor}
 
 -- each of the claims
@@ -189,8 +195,35 @@ Job3 =
     × Prints patternP (edges 2 (1 ∷ 0 ∷ 0 ∷ 0 ∷ 8 ∷ 0 ∷ [])) "refused 14 1"
     × Prints pattern6 (edges 2 (0 ∷ 0 ∷ 0 ∷ 0 ∷ 0 ∷ 0 ∷ [])) "refused 28 1"
 
+-- 02, Job 4: "nodes and names copied as they are, each edge once, in Job 3's order. The old file is checked by 10 to 14 without 28. .. Turned
+-- away: 29, after those checks, when the destination is shorter than the new file." An older block of 49 bytes, its names not in order, its
+-- edges neither in order nor each once, and the new file of 46: with room for just that, with one byte less, and with room for more than the new
+-- file and less than the old one; the new file once more; 14 at a record behind a repeat, and 13, both before 29; what the two files are
+-- judged as; and what becomes of a destination of 48 bytes, and of one that is too short.
+abbrev pub block : ℕ → List ℕ → List ℕ
+block k records = modelFile 2 2 k (node 0 ++ node 7 ++ (6 ∷ 1 ∷ 5 ∷ 0 ∷ []) ++ records)
+
+abbrev pub older : List ℕ
+older = block 4 (1 ∷ 0 ∷ 0 ∷ 0 ∷ 1 ∷ 1 ∷ 0 ∷ 0 ∷ 1 ∷ 1 ∷ 0 ∷ 0 ∷ [])
+
+abbrev pub newer : List ℕ
+newer = block 3 (0 ∷ 0 ∷ 1 ∷ 0 ∷ 1 ∷ 1 ∷ 1 ∷ 0 ∷ 0 ∷ [])
+
+abbrev pub Job4 : Type 0
+Job4 =
+    (orderingOf older 46 ≡ found newer)
+    × (orderingOf older 45 ≡ refused 29 0)
+    × (orderingOf older 48 ≡ found newer)
+    × (orderingOf newer 46 ≡ found newer)
+    × (orderingOf (edges 3 (0 ∷ 0 ∷ 1 ∷ 0 ∷ 0 ∷ 1 ∷ 0 ∷ 8 ∷ 0 ∷ [])) 0 ≡ refused 14 2)
+    × (orderingOf (modelFile 1 1 0 (node 0 ++ (128 ∷ 0 ∷ []))) 0 ≡ refused 13 0)
+    × Prints pattern6 older "refused 28 1"
+    × Prints pattern6 newer "met 1 1"
+    × (destinationAfter (orderingOf older 48) (replicate 48 9) ≡ newer ++ (9 ∷ 9 ∷ []))
+    × (destinationAfter (orderingOf older 45) (replicate 45 9) ≡ replicate 45 9)
+
 abbrev pub readings : List (Type 0)
-readings = A ∷ B ∷ C ∷ D ∷ E ∷ F ∷ G ∷ H ∷ I ∷ J ∷ Job1 ∷ Job2 ∷ Job3 ∷ []
+readings = A ∷ B ∷ C ∷ D ∷ E ∷ F ∷ G ∷ H ∷ I ∷ J ∷ Job1 ∷ Job2 ∷ Job3 ∷ Job4 ∷ []
 
 -- ---- laws
 
@@ -225,18 +258,18 @@ I-holds = (always-unmet, files, any)
 
     files : (ds : List ℕ) (size : ℕ) → ValidModel ds → EdgesRise ds → areaNeed patternI ≤ size → judgingOf patternI ds size ≡ found unmet
     files ds size ok rise l =
-        judging-finds patternI ds size (checks-pass rising patternI ds size .1 (valid patternI 1 reads-I, l, ok, rise, listed ds))
+        judging-finds patternI ds size (checks-pass Order.Rising patternI ds size .1 (valid patternI 1 reads-I, l, ok, rise, listed ds))
         ∙ ap found (always-unmet (modelFrom ds) (all-named ok))
 
     any : (ds : List ℕ) (size : ℕ)
         → (judgingOf patternI ds size ≡ found unmet) ⊎ ((number : ℕ) × ((place : ℕ) × (judgingOf patternI ds size ≡ refused number place)))
-    any ds size = go (judgingCheck rising patternI ds size) refl
+    any ds size = go (judgingCheck Order.Rising patternI ds size) refl
       where
-        go : (c : Check) → judgingCheck rising patternI ds size ≡ c
+        go : (c : Check) → judgingCheck Order.Rising patternI ds size ≡ c
             → (judgingOf patternI ds size ≡ found unmet) ⊎ ((number : ℕ) × ((place : ℕ) × (judgingOf patternI ds size ≡ refused number place)))
-        go passes e = let ok = checks-pass rising patternI ds size .0 e in inl (files ds size (ok .2) (ok .3) (ok .1))
+        go passes e = let ok = checks-pass Order.Rising patternI ds size .0 e in inl (files ds size (ok .2) (ok .3) (ok .1))
         go (refuses number place) e = inr (number, (place, judging-refuses patternI ds size number place e))
 
 pub readings-hold : All readings
-unfolding readingOf patternCheck headerCheck entryCheck rootCheck eachField someBelow eachBelow sameBytes judgingBy judgingCheck namesCheck modelCheck file.headerCheck nameCheck edgeCheck orderCheck recordCheck comesBefore isListed nodeAt nodeWithin pathWithin holdsTest leadsTest judgedBy lowestBelow countBelow leadsIn nodeNamed tableau.judgingOf tableau.judgingCheck tableau.headerCheck tableau.runOf run stepping ruleAt stepAt stepsFrom branchHas usesName digitsWithin
-readings-hold = (refl, (refl, (refl, (refl, (refl, (refl, (refl, (refl, (I-holds, ((refl, refl, refl, refl), ((refl, refl, refl, refl, refl), ((refl, refl, refl, refl), ((refl, refl, refl, refl, refl, refl, refl, refl, refl), tt)))))))))))))
+unfolding readingOf patternCheck headerCheck entryCheck rootCheck eachField someBelow eachBelow sameBytes judgingBy judgingCheck namesCheck modelCheck file.headerCheck nameCheck edgeCheck orderCheck recordCheck comesBefore isListed nodeAt nodeWithin pathWithin holdsTest leadsTest judgedBy lowestBelow countBelow leadsIn nodeNamed tableau.judgingOf tableau.judgingCheck tableau.headerCheck tableau.runOf run stepping ruleAt stepAt stepsFrom branchHas usesName digitsWithin listBelow edgesOf frontOf orderedFile fileWithin orderingOf onto
+readings-hold = (refl, (refl, (refl, (refl, (refl, (refl, (refl, (refl, (I-holds, ((refl, refl, refl, refl), ((refl, refl, refl, refl, refl), ((refl, refl, refl, refl), ((refl, refl, refl, refl, refl, refl, refl, refl, refl), ((refl, refl, refl, refl, refl, refl, refl, refl, refl, refl), tt))))))))))))))

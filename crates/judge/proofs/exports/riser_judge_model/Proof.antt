@@ -1,7 +1,7 @@
 -- `judge::exports::riser_judge_model` meets its contract: it packs what judging finds.
 -- Assumes nothing.
 use Rattle.model.specs.Judging.{findingOf}
-use Rattle.judge.specs.Unpacked.{model-told}
+use Rattle.judge.specs.Told.{model-told}
 use borrow.Author.Needs.{needs}
 use Rattle.judge.proofs.exports.riser_judge_model.Statement.{statement}
 use Rattle.judge.proofs.exports.riser_judge_model.Tie as tie

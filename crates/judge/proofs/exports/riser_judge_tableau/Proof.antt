@@ -1,7 +1,7 @@
 -- `judge::exports::riser_judge_tableau` meets its contract: it packs what judging finds.
 -- Assumes nothing.
 use Rattle.tableau.specs.Judging.{findingOf}
-use Rattle.judge.specs.Unpacked.{tableau-told}
+use Rattle.judge.specs.Told.{tableau-told}
 use borrow.Author.Needs.{needs}
 use Rattle.judge.proofs.exports.riser_judge_tableau.Statement.{statement}
 use Rattle.judge.proofs.exports.riser_judge_tableau.Tie as tie

@@ -1,8 +1,8 @@
 -- `judge::exports::riser_read` meets its contract: it packs what reading finds.
 -- Assumes nothing.
 use mathlib.Core.Path.{_∙_, ap}
-use Rattle.judge.specs.Packed.{readAnswer}
-use Rattle.judge.specs.Unpacked.{unpackRead, unpack-read}
+use Rattle.answers.specs.Packed.{readAnswer}
+use Rattle.answers.specs.Unpacked.{unpackRead, unpack-read}
 use borrow.Author.Needs.{needs}
 use Rattle.judge.proofs.exports.riser_read.Statement.{statement}
 use Rattle.judge.proofs.exports.riser_read.Tie as tie
