@@ -1,10 +1,12 @@
 #!/bin/sh
-# Compiles the C examples against the proved library (rt staticlib judge) and runs them: `empty` by itself, and
-# `judge` on every sample folder that has both files: each line must be the one that crates/readings/stdout has.
+# Compiles the C examples against the proved library (rt staticlib judge) and runs them: `empty` by itself, `judge` on
+# every sample folder that has both files: each line must be the one that crates/readings/stdout has; and `order` on a
+# block as it was sent, of which it must make the sample of the same block in order, byte for byte, and on one of no
+# nodes.
 set -eu
 cd "$(dirname "$0")/.."
 mkdir -p target/c
-for example in empty judge; do
+for example in empty judge order; do
     ${CC:-cc} -std=c11 -O2 -Wall -Wextra -Wpedantic -Werror -I include "examples/$example.c" target/staticlib/libjudge.a -o "target/c/$example"
 done
 target/c/empty
@@ -24,3 +26,17 @@ if [ "$compared" -lt 100 ]; then
     exit 1
 fi
 echo "C example: $compared samples judged as they should be"
+data=crates/readings/data
+new=target/c/new.bin
+rm -f "$new"
+line=$(target/c/order "$data/refused_28_older_block/proposal.bin" "$new")
+if [ "$line" != "written 103" ] || ! cmp "$new" "$data/older_block_in_order/proposal.bin"; then
+    echo "check.sh: the C example of putting a block in order printed '$line', or wrote another file" >&2
+    exit 1
+fi
+rm "$new"
+if line=$(target/c/order "$data/refused_12_no_node/proposal.bin" "$new") || [ "$line" != "refused 12 0" ] || [ -e "$new" ]; then
+    echo "check.sh: the C example of putting a block in order printed '$line' of a block without nodes, or wrote a file" >&2
+    exit 1
+fi
+echo "C example: a block put in order as it should be"

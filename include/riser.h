@@ -2,10 +2,11 @@
  *
  * Each function takes any bytes of any length and answers one number, a packed finding. A pointer may
  * be anything, NULL included, where its length is 0. The working area must overlap neither of the other
- * byte strings. Nothing outside the given lengths is read or written.
+ * byte strings, and the destination must not overlap the old file. Nothing outside the given lengths is
+ * read or written.
  *
  * Stack that was enough on the deepest inputs: 2.5 KB for reading, 10.5 KB for judging a model, 16 KB for
- * judging a tableau. */
+ * judging a tableau, 4.5 KB for putting a model in order. */
 #ifndef RISER_H
 #define RISER_H
 
@@ -20,13 +21,17 @@ extern "C" {
 #define RISER_MODEL_AREA 2040
 #define RISER_TABLEAU_AREA 8192
 
+/* The bytes of the longest model file: a destination of so many is enough for putting any model in order. */
+#define RISER_MODEL_LONGEST 13321
+
 /* What an answer is: its lowest 4 bits. The numbers that go with it are its parts, in this order. */
 enum riser_kind {
     RISER_REFUSED = 1, /* refusal number, place */
     RISER_READ = 2,    /* number of entries */
     RISER_MET = 3,     /* lowest node, number of nodes */
     RISER_UNMET = 4,   /* none */
-    RISER_CLOSED = 5   /* steps, clashes, forks, most lines on a branch */
+    RISER_CLOSED = 5,  /* steps, clashes, forks, most lines on a branch */
+    RISER_WRITTEN = 6  /* length of the file that was written; the same kind will serve later files */
 };
 
 /* The kind of an answer. */
@@ -51,6 +56,15 @@ uint64_t riser_judge_model(const uint8_t *pattern, size_t pattern_length, const 
  * rest unchanged. */
 uint64_t riser_judge_tableau(const uint8_t *pattern, size_t pattern_length, const uint8_t *tableau,
                              size_t tableau_length, uint8_t *area, size_t area_length);
+
+/* Puts an older model file in order, one whose edges stand in any order and may be repeated: RISER_WRITTEN,
+ * or RISER_REFUSED with number 10 to 14 or 29, which leaves the destination unchanged. The new file has the
+ * nodes and names as they stand and each edge once, rising by from, then axis, then to. It is in the first
+ * bytes of the destination, as many as its length says, and the bytes beyond are unchanged. Judged with any
+ * pattern, it gets the finding that the old file would get if 28 were never given. A file that is in order
+ * comes out as it was. 29 says that the destination is shorter than the new file, which may be shorter than
+ * the old one; RISER_MODEL_LONGEST bytes, or as many as the old file has, are always enough. */
+uint64_t riser_order(const uint8_t *old, size_t old_length, uint8_t *destination, size_t destination_length);
 
 #ifdef __cplusplus
 }

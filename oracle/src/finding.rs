@@ -1,8 +1,8 @@
-//! What the operations of document 01 answer.
+//! What the operations of documents 01 and 02 answer.
 
 use std::fmt;
 
-/// A finding of any of the three operations, or a refusal with its number and place.
+/// A finding of any of the four operations, or a refusal with its number and place.
 #[derive(Clone, Copy, Debug, PartialEq, Eq)]
 pub enum Finding {
     /// Reading a pattern: the number of its entries.
@@ -23,6 +23,10 @@ pub enum Finding {
         forks: u16,
         most: u16,
     },
+    /// Putting a model in order: the length of the new file.
+    Written {
+        length: u16,
+    },
     Refused(Refusal),
 }
 
@@ -32,7 +36,7 @@ pub struct Refusal {
     pub place: u16,
 }
 
-/// The line that the bench program prints (`read` and the count for a reading, which it never prints).
+/// The line that the bench program prints (`read` with the count and `written` with the length, which it never prints).
 impl fmt::Display for Finding {
     fn fmt(&self, f: &mut fmt::Formatter<'_>) -> fmt::Result {
         match self {
@@ -42,6 +46,7 @@ impl fmt::Display for Finding {
             Finding::Closed { steps, clashes, forks, most } => {
                 write!(f, "closed {steps} {clashes} {forks} {most}")
             }
+            Finding::Written { length } => write!(f, "written {length}"),
             Finding::Refused(Refusal { number, place }) => write!(f, "refused {number} {place}"),
         }
     }

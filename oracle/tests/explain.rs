@@ -241,12 +241,13 @@ fn edges_that_do_not_rise() {
     let said = |edges: &[[u8; 3]]| finding(&a, &model(&[plain(0); 3], &[[1, 0]], edges));
     let meaning =
         "it doesn't come after the record before it (edges rise by from, then axis, then to, each once)";
+    let tool = "The tool `order` writes the same model with its edges in order.";
     assert_eq!(
         said(&[[0, 0, 0], [0, 0, 1], [0, 2, 1], [0, 2, 1], [2, 0, 0]]),
         format!(
             "Finding: refused 28 3, edge record 3: {meaning}.\n\
              Edge record 3 is from 0, axis 2, to 1; edge record 2 is from 0, axis 2, to 1.\n\
-             Edge record 3 repeats record 2: leave it out.\n"
+             Edge record 3 repeats record 2: leave it out.\n{tool}\n"
         )
     );
     assert_eq!(
@@ -254,17 +255,21 @@ fn edges_that_do_not_rise() {
         format!(
             "Finding: refused 28 1, edge record 1: {meaning}.\n\
              Edge record 1 is from 0, axis 1, to 2; edge record 0 is from 0, axis 2, to 1.\n\
-             Edge record 1 comes before record 0 in that order.\n"
+             Edge record 1 comes before record 0 in that order.\n{tool}\n"
         )
     );
-    let belongs = said(&[[0, 0, 0], [1, 0, 0], [1, 0, 2], [2, 0, 0], [1, 0, 1]]);
-    assert!(
-        belongs
-            .ends_with("\nEdge record 4 comes before record 3 in that order, and belongs before record 2.\n"),
-        "{belongs}"
+    let fault = |edges: &[[u8; 3]]| said(edges).lines().nth(2).map(str::to_owned).expect("three lines");
+    assert_eq!(
+        fault(&[[0, 0, 0], [1, 0, 0], [1, 0, 2], [2, 0, 0], [1, 0, 1]]),
+        "Edge record 4 comes before record 3 in that order, and belongs before record 2."
     );
-    let repeats = said(&[[0, 0, 0], [1, 0, 0], [1, 0, 2], [2, 0, 0], [1, 0, 0]]);
-    assert!(repeats.ends_with("\nEdge record 4 repeats record 1: leave it out.\n"), "{repeats}");
+    assert_eq!(
+        fault(&[[0, 0, 0], [1, 0, 0], [1, 0, 2], [2, 0, 0], [1, 0, 0]]),
+        "Edge record 4 repeats record 1: leave it out."
+    );
+    let later = said(&[[0, 0, 0], [0, 0, 0], [1, 0, 0], [0, 8, 0]]);
+    let behind = "\nBehind it stands another fault: refused 14 3, edge record 3: a field is out of range.\n";
+    assert!(later.ends_with(behind), "{later}");
 }
 
 #[test]
@@ -415,7 +420,10 @@ fn the_tool_names_a_file_that_it_cannot_read() {
     let output = run(&[&pattern, Path::new("there/is/no/such.proposal")]);
     assert_eq!(output.status.code(), Some(1));
     let message = String::from_utf8(output.stderr).unwrap();
-    assert!(message.starts_with("explain: there/is/no/such.proposal: No such file"), "{message}");
+    assert!(
+        message.starts_with("explain: there/is/no/such.proposal: can't be read: No such file"),
+        "{message}"
+    );
     assert!(output.stdout.is_empty());
 }
 

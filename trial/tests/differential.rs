@@ -7,9 +7,10 @@ use faults::edges::{self, Edges, unordered};
 use faults::fresh::{RIGHT, SEARCHES, SETS};
 use faults::model::{MISREADINGS, misread};
 use faults::names::{MISTAKES, mistaken, names_before_edges};
+use faults::ordering::{self, OTHER_BYTES, OTHER_FINDINGS, TOUCHED};
 use faults::slots::{COMPARINGS, compared};
 use faults::tableau::{self, Fault, NONE};
-use oracle::finding::Finding;
+use oracle::finding::{Finding, Refusal};
 use oracle::model::check_names;
 use trial::differential::compare::{Comparer, What};
 use trial::differential::guarded::Against;
@@ -20,9 +21,9 @@ use trial::generate::input::{Input, Kind, Operation};
 use trial::generate::{BLOCK, Generator};
 
 /// Enough inputs for every planted fault to be seen.
-const RUN: Run = Run { seed: 1, count: 40 * BLOCK, threads: 2 };
+const RUN: Run = Run { seed: 1, count: 64 * BLOCK, threads: 2 };
 /// Enough inputs for everything to occur.
-const COMPLETE: Run = Run { count: 120 * BLOCK, ..RUN };
+const COMPLETE: Run = Run { count: 160 * BLOCK, ..RUN };
 
 /// Runs an implementation with a planted fault against the independent one.
 fn planted(fault: &(dyn Fn(Operation, Lent) -> Finding + Sync)) -> Result<Tally, Box<Failure>> {
@@ -89,9 +90,27 @@ fn areas_are_filled_with_bytes_that_are_not_zero_and_differ_from_their_neighbour
     }
 }
 
+/// Checks that a situation of each sort is named if it never occurs.
+fn check_situations(complete: &Tally) {
+    for situation in [
+        ("limit", "64 nodes judged"),
+        ("names", "met, names used"),
+        ("edges", "edge record 1 refused 28"),
+        ("fresh names", "name by itself refused 22"),
+        ("slots", "entries that share a slot read"),
+        ("older models", "destination one short refused 29"),
+        ("older models judged", "met, edges out of order"),
+    ] {
+        let mut tally = complete.clone();
+        assert!(tally.shown.remove(&situation).is_some());
+        assert_eq!(tally.missing(), [format!("{}: {}", situation.0, situation.1)]);
+    }
+}
+
 #[test]
 fn everything_occurs_and_what_never_does_is_named() {
     let complete = tally(COMPLETE);
+    check_situations(&complete);
     let missing = |change: fn(&mut Tally)| {
         let mut tally = complete.clone();
         change(&mut tally);
@@ -105,21 +124,16 @@ fn everything_occurs_and_what_never_does_is_named() {
     assert_eq!(missing(|tally| assert!(tally.names[0].remove(&77))), ["name 77 refused 27"]);
     assert_eq!(missing(|tally| tally.refused[1][28].times = 0), ["refusal 28 of judging a model"]);
     assert_eq!(missing(|tally| tally.refused[2][24].times = 0), ["refusal 24 of judging a tableau"]);
+    assert_eq!(missing(|tally| tally.written = 0), ["finding written"]);
+    assert_eq!(missing(|tally| tally.refused[3][29].times = 0), ["refusal 29 of putting a model in order"]);
+    assert_eq!(
+        missing(|tally| tally.refused[4][14].times = 0),
+        ["refusal 14 of judging a model put in order"]
+    );
     assert_eq!(missing(|tally| tally.rules[20].closed = 0), ["rule 20 in a closed tableau"]);
     assert_eq!(missing(|tally| tally.rules[3].refused[1] = 0), ["a step with rule 3 refused 21"]);
     assert_eq!(missing(|tally| tally.rules[14].refused[2] = 0), ["a step with rule 14 refused 22"]);
     assert_eq!(missing(|tally| tally.short[1][9] = 0), ["a file of 9 bytes for judging a model"]);
-    for (sort, situation) in [
-        ("limit", "64 nodes judged"),
-        ("names", "met, names used"),
-        ("edges", "edge record 1 refused 28"),
-        ("fresh names", "name by itself refused 22"),
-        ("slots", "entries that share a slot read"),
-    ] {
-        let mut tally = complete.clone();
-        assert!(tally.limits.remove(situation).is_some());
-        assert_eq!(tally.missing(), [format!("{sort}: {situation}")]);
-    }
     assert_eq!(missing(|tally| assert!(tally.names[1].remove(&0))), ["name 0 refused 18"]);
     assert_eq!(missing(|tally| assert!(tally.names[2].remove(&64))), ["name 64 of the branch refused 22"]);
     assert_eq!(missing(|tally| assert!(tally.names[3].remove(&127))), ["name 127 of the pattern refused 22"]);
@@ -222,7 +236,7 @@ fn a_finding_against_demand_3_is_seen_without_any_other_implementation() {
     };
     let Err(failure) = RUN.go(&[says_met]) else { panic!("the fault isn't seen") };
     assert_eq!(failure.difference.what, What::Demand { found: Finding::Met { lowest: 0, number: 1 } });
-    assert_eq!(failure.input.kind, Kind::ModelOfClosed);
+    assert!(matches!(failure.input.kind, Kind::ModelOfClosed | Kind::JudgedOldModel));
 }
 
 #[test]
@@ -274,11 +288,56 @@ fn an_area_cleared_by_refusal_27_or_28_is_seen() {
 }
 
 #[test]
+fn mistakes_in_putting_a_model_in_order_are_seen() {
+    for (words, orderer) in OTHER_FINDINGS {
+        is_seen_among(words, &|operation, lent| orderer.run(operation, lent));
+    }
+    for (words, orderer) in OTHER_BYTES {
+        let what = seen(&|operation, lent| orderer.run(operation, lent));
+        assert!(matches!(what, What::Area { .. }), "{words}: {what:?}");
+    }
+}
+
+#[test]
+fn a_destination_changed_by_a_refusal_is_seen() {
+    for (number, orderer) in TOUCHED {
+        let what = seen(&|operation, lent| orderer.run(operation, lent));
+        assert!(
+            matches!(what, What::Area { before, expected, .. } if before == expected),
+            "{number}: {what:?}"
+        );
+    }
+}
+
+/// The new file isn't looked at: what patterns find in it tells.
+#[test]
+fn an_edge_lost_is_seen_by_what_patterns_find() {
+    let lost = OTHER_FINDINGS.iter().filter(|(words, _)| words.ends_with(" edge is lost"));
+    for (words, orderer) in lost {
+        is_seen_among(words, &|operation, lent| orderer.run_judged(operation, lent));
+    }
+}
+
+#[test]
+fn an_older_model_judged_as_it_stands_is_seen() {
+    let what = seen(&|operation, lent| match operation {
+        Operation::Ordered => run_oracle(Operation::Model, lent),
+        _ => run_oracle(operation, lent),
+    });
+    assert!(
+        matches!(what, What::Finding { found: Finding::Refused(Refusal { number: 28, .. }), .. }),
+        "{what:?}"
+    );
+}
+
+#[test]
 fn the_planted_judges_are_right_without_a_fault() {
     let lowest = |pattern: &_, model: &_| check_names(pattern, model).err().map(|refusal| refusal.place);
     assert!(planted(&|operation, lent| mistaken(lowest, operation, lent)).is_ok());
     assert!(planted(&|operation, lent| unordered(Edges::right, operation, lent)).is_ok());
     assert!(planted(&|operation, lent| NONE.run(operation, lent)).is_ok());
+    assert!(planted(&|operation, lent| ordering::RIGHT.run(operation, lent)).is_ok());
+    assert!(planted(&|operation, lent| ordering::RIGHT.run_judged(operation, lent)).is_ok());
 }
 
 #[test]

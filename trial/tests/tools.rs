@@ -9,6 +9,8 @@ use std::fs::{self, Permissions};
 use std::os::unix::ffi::OsStrExt;
 use std::os::unix::fs::PermissionsExt;
 use std::process::{Command, Output};
+use trial::generate::input::{Input, Operation};
+use trial::generate::{BLOCK, Generator};
 
 const DIFFERENTIAL: &str = env!("CARGO_BIN_EXE_differential");
 const PROGRAMS: &str = env!("CARGO_BIN_EXE_programs");
@@ -102,6 +104,25 @@ fn one_input_is_shown_in_full() {
         assert!(shown.lines().any(|line| line.starts_with(beginning)), "{beginning:?} in {shown}");
     }
     assert_eq!(shown, text(&run(DIFFERENTIAL, &["--only", "77", "--seed", "3"]).stdout));
+}
+
+#[test]
+fn a_model_to_be_put_in_order_is_shown_in_full() {
+    let mut input = Input::blank();
+    let mut generator = Generator::new(1);
+    let is_such = |number: &u64| {
+        generator.make(*number, &mut input);
+        input.operation == Operation::Ordering
+    };
+    let number = (0..BLOCK).find(is_such).expect("a model to be put in order");
+    let output = run(DIFFERENTIAL, &["--only", &number.to_string()]);
+    assert_eq!(output.status.code(), Some(0));
+    let shown = text(&output.stdout);
+    for beginning in ["operation   putting a model in order", "old file    ", "destination ", "unit        "]
+    {
+        assert!(shown.lines().any(|line| line.starts_with(beginning)), "{beginning:?} in {shown}");
+    }
+    assert!(!shown.contains("pattern"), "{shown}");
 }
 
 #[test]

@@ -9,7 +9,7 @@
 //! ```
 //!
 //! Stack that was enough on the deepest inputs: 2.5 KB for reading, 10.5 KB for judging a model, 16 KB for
-//! judging a tableau.
+//! judging a tableau, 4.5 KB for putting a model in order.
 
 use std::fmt;
 
@@ -19,7 +19,10 @@ pub const MODEL_AREA: usize = 2040;
 /// The bytes of working area that are enough for judging a tableau.
 pub const TABLEAU_AREA: usize = 8192;
 
-/// A finding of any of the three operations, or a refusal with its number and place.
+/// The bytes of the longest model file: a destination of so many is enough for putting any model in order.
+pub const MODEL_LONGEST: usize = 13_321;
+
+/// A finding of any of the four operations, or a refusal with its number and place.
 #[derive(Clone, Copy, Debug, PartialEq, Eq)]
 pub enum Finding {
     /// Reading a pattern: the number of its entries.
@@ -30,6 +33,8 @@ pub enum Finding {
     Unmet,
     /// Judging a tableau: the counts of steps, clashes and forks, and the most lines on a branch.
     Closed { steps: u16, clashes: u16, forks: u16, most: u16 },
+    /// Putting a model in order: the length of the new file.
+    Written { length: u16 },
     /// Refused: the number and the place.
     Refused { number: u16, place: u16 },
 }
@@ -52,6 +57,12 @@ mod linked {
             tableau_length: usize,
             area: *mut u8,
             area_length: usize,
+        ) -> u64;
+        pub fn riser_order(
+            old: *const u8,
+            old_length: usize,
+            destination: *mut u8,
+            destination_length: usize,
         ) -> u64;
     }
 }
@@ -95,6 +106,18 @@ pub fn judge_tableau(pattern: &[u8], tableau: &[u8], area: &mut [u8]) -> Finding
     })
 }
 
+/// Puts an older model file in order, one whose edges stand in any order and may be repeated: the new file has the
+/// nodes and names as they stand and each edge once, rising by from, then axis, then to. It is in the first bytes of
+/// the destination, whose other bytes stay; a refusal, 10 to 14 or 29, leaves all of them. `MODEL_LONGEST` bytes of
+/// destination, or as many as the old file has, are enough: refusal 29 says that the new file is longer.
+pub fn order(old: &[u8], destination: &mut [u8]) -> Finding {
+    // SAFETY: the old file is readable, and the destination writable, for their lengths; the destination is
+    // borrowed for writing and so doesn't overlap the old file.
+    unpacked(unsafe {
+        linked::riser_order(old.as_ptr(), old.len(), destination.as_mut_ptr(), destination.len())
+    })
+}
+
 /// A packed answer: its kind in the lowest 4 bits, and above it four numbers of 14 bits, the first lowest.
 fn unpacked(answer: u64) -> Finding {
     let part = |k: u32| (answer >> (4 + 14 * k) & 0x3fff) as u16;
@@ -104,11 +127,12 @@ fn unpacked(answer: u64) -> Finding {
         3 => Finding::Met { lowest: part(0), number: part(1) },
         4 => Finding::Unmet,
         5 => Finding::Closed { steps: part(0), clashes: part(1), forks: part(2), most: part(3) },
+        6 => Finding::Written { length: part(0) },
         kind => unreachable!("the library gives no answer of kind {kind}"),
     }
 }
 
-/// The line that the bench program prints (`read` and the count for a reading, which it never prints).
+/// The line that the bench program prints (`read` with the count and `written` with the length, which it never prints).
 impl fmt::Display for Finding {
     fn fmt(&self, f: &mut fmt::Formatter<'_>) -> fmt::Result {
         match self {
@@ -118,6 +142,7 @@ impl fmt::Display for Finding {
             Finding::Closed { steps, clashes, forks, most } => {
                 write!(f, "closed {steps} {clashes} {forks} {most}")
             }
+            Finding::Written { length } => write!(f, "written {length}"),
             Finding::Refused { number, place } => write!(f, "refused {number} {place}"),
         }
     }

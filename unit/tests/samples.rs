@@ -3,7 +3,7 @@
 use std::fs;
 use std::path::Path;
 
-use unit::{Finding, MODEL_AREA, TABLEAU_AREA};
+use unit::{Finding, MODEL_AREA, MODEL_LONGEST, TABLEAU_AREA};
 
 /// The finding that the bench program prints for two files; a file that can't be opened counts as empty.
 fn judged(folder: &Path) -> Finding {
@@ -58,10 +58,6 @@ fn a_name_of_the_pattern_that_is_not_listed_is_refused() {
 #[test]
 fn edges_that_do_not_rise_are_refused() {
     let pattern = b"PAT\x01\x00\x01\x01\x00\x00\x00";
-    let model = |edges: &[[u8; 3]]| {
-        let header = [b'D', b'A', b'T', 1, 0, 2, 0, edges.len() as u8, 0];
-        [&header[..], &[1; 24], edges.as_flattened()].concat()
-    };
     let rising = [[0, 0, 0], [0, 0, 1], [0, 1, 0], [1, 0, 0]];
     let mut area = [7; MODEL_AREA];
     for place in 1..rising.len() {
@@ -76,6 +72,40 @@ fn edges_that_do_not_rise_are_refused() {
     let finding = unit::judge_model(pattern, &model(&rising), &mut area);
     assert_eq!(finding, Finding::Met { lowest: 0, number: 2 });
     assert_eq!(area, [0; MODEL_AREA]);
+}
+
+/// A model file of two nodes that have property 0, with these edges.
+fn model(edges: &[[u8; 3]]) -> Vec<u8> {
+    let header = [b'D', b'A', b'T', 1, 0, 2, 0, edges.len() as u8, 0];
+    [&header[..], &[1; 24], edges.as_flattened()].concat()
+}
+
+/// The destination is long enough for the new file and not for the old one, and what is beyond stays.
+#[test]
+fn an_older_model_is_put_in_order() {
+    let old = model(&[[1, 0, 0], [0, 1, 0], [1, 0, 0], [0, 0, 1]]);
+    let new = model(&[[0, 0, 1], [0, 1, 0], [1, 0, 0]]);
+    let mut destination = [7; MODEL_LONGEST];
+    let length = new.len();
+    assert_eq!(unit::order(&old, &mut destination[..length - 1]), Finding::Refused { number: 29, place: 0 });
+    assert_eq!(destination, [7; MODEL_LONGEST]);
+    let written = Finding::Written { length: length as u16 };
+    assert_eq!(unit::order(&old, &mut destination[..length]), written);
+    assert_eq!(destination[..length], new);
+    assert_eq!(unit::order(&new, &mut destination), written);
+    assert_eq!(destination[..length], new);
+    assert!(destination[length..].iter().all(|&byte| byte == 7));
+    assert_eq!(written.to_string(), format!("written {length}"));
+}
+
+#[test]
+fn an_older_model_at_fault_is_refused() {
+    let mut destination = [7; MODEL_LONGEST];
+    let fault = model(&[[1, 0, 0], [0, 1, 0], [0, 8, 0]]);
+    assert_eq!(unit::order(&fault, &mut destination), Finding::Refused { number: 14, place: 2 });
+    assert_eq!(unit::order(b"", &mut destination), Finding::Refused { number: 10, place: 0 });
+    assert_eq!(unit::order(b"", &mut []), Finding::Refused { number: 10, place: 0 });
+    assert_eq!(destination, [7; MODEL_LONGEST]);
 }
 
 #[test]

@@ -9,7 +9,7 @@ mod tableau;
 mod tree;
 mod wording;
 
-pub use refusal::refused;
+pub use refusal::{model_detail, refused};
 
 use crate::pattern;
 use crate::tableau::MARK;

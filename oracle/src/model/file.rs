@@ -1,4 +1,4 @@
-//! The model file: refusals 10 to 14 and 28, and writing one.
+//! The model file: refusals 10 to 14, with 28 or without it, and writing one.
 
 use super::{Edge, Model, Node};
 use crate::bytes::{FORMAT_VERSION, u16_at};
@@ -17,6 +17,16 @@ pub(crate) const EDGE_BYTES: usize = 3;
 
 /// Refusals 10 to 14 and 28, or the model.
 pub fn parse(bytes: &[u8]) -> Result<Model, Refusal> {
+    parse_by(bytes, parse_rising)
+}
+
+/// Job 4: "The old file is checked by 10 to 14 without 28." The model has its edges as they stand.
+pub fn parse_old(bytes: &[u8]) -> Result<Model, Refusal> {
+    parse_by(bytes, parse_edges)
+}
+
+/// Refusals 10 to 13 and what is refused of the edge records, or the model.
+fn parse_by(bytes: &[u8], edges_of: EdgeCheck) -> Result<Model, Refusal> {
     if bytes.len() < HEADER_BYTES || !bytes.starts_with(MARK) {
         return Err(Refusal { number: 10, place: 0 });
     }
@@ -34,7 +44,7 @@ pub fn parse(bytes: &[u8]) -> Result<Model, Refusal> {
     Ok(Model {
         nodes: node_records.chunks_exact(NODE_BYTES).map(parse_node).collect(),
         names: parse_names(name_records, nodes)?,
-        edges: parse_edges(edge_records, nodes)?,
+        edges: edges_of(edge_records, nodes)?,
     })
 }
 
@@ -58,22 +68,36 @@ fn parse_names(records: &[u8], nodes: usize) -> Result<Vec<(u8, u8)>, Refusal> {
     Ok(names)
 }
 
-/// "14, place the edge record: field out of range", and of Job 3: "28, in each edge record after its 14 check, when
-/// it doesn't come after the record before it, place that record".
+/// The edges of records in a model of so many nodes.
+type EdgeCheck = fn(&[u8], usize) -> Result<Vec<Edge>, Refusal>;
+
+/// Refusal 14, or the edges.
 fn parse_edges(records: &[u8], nodes: usize) -> Result<Vec<Edge>, Refusal> {
+    let records = records.chunks_exact(EDGE_BYTES).enumerate();
+    records.map(|(place, record)| parse_edge(record, place, nodes)).collect()
+}
+
+/// Refusals 14 and 28, or the edges. Job 3: "28, in each edge record after its 14 check, when it doesn't come after
+/// the record before it, place that record".
+fn parse_rising(records: &[u8], nodes: usize) -> Result<Vec<Edge>, Refusal> {
     let mut edges: Vec<Edge> = Vec::with_capacity(records.len() / EDGE_BYTES);
-    for record in records.chunks_exact(EDGE_BYTES) {
-        let (from, axis, to) = (record[0], record[1], record[2]);
-        let place = edges.len() as u16;
-        if from as usize >= nodes || axis > MAX_AXIS || to as usize >= nodes {
-            return Err(Refusal { number: 14, place });
+    for (place, record) in records.chunks_exact(EDGE_BYTES).enumerate() {
+        let edge = parse_edge(record, place, nodes)?;
+        if edges.last().is_some_and(|before| edge <= *before) {
+            return Err(Refusal { number: 28, place: place as u16 });
         }
-        if edges.last().is_some_and(|before| (from, axis, to) <= *before) {
-            return Err(Refusal { number: 28, place });
-        }
-        edges.push((from, axis, to));
+        edges.push(edge);
     }
     Ok(edges)
+}
+
+/// "14, place the edge record: field out of range".
+fn parse_edge(record: &[u8], place: usize, nodes: usize) -> Result<Edge, Refusal> {
+    let (from, axis, to) = (record[0], record[1], record[2]);
+    if from as usize >= nodes || axis > MAX_AXIS || to as usize >= nodes {
+        return Err(Refusal { number: 14, place: place as u16 });
+    }
+    Ok((from, axis, to))
 }
 
 impl Model {

@@ -1,12 +1,14 @@
 //! Judging a model: `file` reads it, `holds` says at which nodes each entry holds, and this file gives
-//! the finding.
+//! the finding. `order` puts an older one in order.
 
 mod file;
 mod holds;
+mod order;
 
 pub(crate) use file::{EDGE_BYTES, HEADER_BYTES, NAME_BYTES, NODE_BYTES};
-pub use file::{MAX_EDGES, MAX_NAMES, MAX_NODES, parse};
+pub use file::{MAX_EDGES, MAX_NAMES, MAX_NODES, parse, parse_old};
 pub use holds::{NodeSet, node_sets, where_holds};
+pub use order::{in_order, order};
 
 use crate::finding::{Finding, Refusal};
 use crate::pattern::{self, Pattern};
@@ -35,7 +37,17 @@ pub struct Node {
 
 /// Judging a model as document 01 and Jobs 1 and 3 state it, with what it does to the working area.
 pub fn judge(pattern: &[u8], model: &[u8], area: &mut [u8]) -> Finding {
-    match admit(pattern, model, area.len()) {
+    judge_by(parse, pattern, model, area)
+}
+
+/// The same of an older model file, with Job 3's order left out and Job 1's names kept: what Job 4 says that every
+/// pattern gets on the new file too.
+pub fn judge_old(pattern: &[u8], old: &[u8], area: &mut [u8]) -> Finding {
+    judge_by(parse_old, pattern, old, area)
+}
+
+fn judge_by(parse: Parse, pattern: &[u8], model: &[u8], area: &mut [u8]) -> Finding {
+    match admit(parse, pattern, model, area.len()) {
         Ok((pattern, model)) => {
             area[..AREA].fill(0);
             finding(&pattern, &model)
@@ -44,8 +56,11 @@ pub fn judge(pattern: &[u8], model: &[u8], area: &mut [u8]) -> Finding {
     }
 }
 
+/// The model of a file, or what is refused of it.
+type Parse = fn(&[u8]) -> Result<Model, Refusal>;
+
 /// Refusals 1 to 14, 28 and 27 in their order: the pattern, the area, the model, the pattern's names in it.
-fn admit(pattern: &[u8], model: &[u8], area: usize) -> Result<(Pattern, Model), Refusal> {
+fn admit(parse: Parse, pattern: &[u8], model: &[u8], area: usize) -> Result<(Pattern, Model), Refusal> {
     let pattern = pattern::parse(pattern)?;
     if area < AREA {
         return Err(Refusal { number: 9, place: 0 });

@@ -5,13 +5,13 @@ use oracle::model::Model;
 use oracle::pattern::Pattern;
 use oracle::tableau::Tableau;
 
-/// The lent area is longer than any judgement wants, so that the rest is seen to be unchanged.
-pub const AREA: usize = 8192 + 64;
+/// The lent area is longer than any judgement or any new file wants, so that the rest is seen to be unchanged.
+pub const AREA: usize = unit::MODEL_LONGEST + 64;
 
 /// What an area is filled with before the implementations are compared.
 const FILL: u8 = 0xa5;
 
-/// A pattern, and nothing, a model or a tableau to judge, as files.
+/// A pattern, and nothing, a model or a tableau to judge, as files; or a model to put in order, without a pattern.
 pub struct Case {
     pub name: String,
     pub pattern: Vec<u8>,
@@ -22,6 +22,7 @@ pub enum Proposal {
     None,
     Model(Vec<u8>),
     Tableau(Vec<u8>),
+    Old(Vec<u8>),
 }
 
 impl Case {
@@ -35,6 +36,10 @@ impl Case {
 
     pub fn tableau(name: &str, pattern: &Pattern, tableau: &Tableau) -> Case {
         Case::new(name, pattern, Proposal::Tableau(tableau.to_bytes()))
+    }
+
+    pub fn ordering(name: &str, old: &Model) -> Case {
+        Case { name: name.to_owned(), pattern: Vec::new(), proposal: Proposal::Old(old.to_bytes()) }
     }
 
     fn new(name: &str, pattern: &Pattern, proposal: Proposal) -> Case {

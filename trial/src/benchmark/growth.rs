@@ -2,6 +2,7 @@
 
 use super::case::Case;
 use super::inputs::models::{LARGE, Size, random_model};
+use super::inputs::older::older;
 use super::inputs::patterns;
 use super::inputs::tableaux::{self, Fresh, workshop};
 use oracle::pattern::Pattern;
@@ -27,6 +28,7 @@ impl Series {
 
 const ENTRIES: [usize; 4] = [32, 64, 128, 255];
 const NODES: [usize; 4] = [8, 16, 32, 64];
+const EDGES: [usize; 3] = [64, 512, 4096];
 
 pub fn all() -> Vec<Series> {
     let mut all = by_entries();
@@ -72,7 +74,10 @@ fn by_model() -> Vec<Series> {
         Series::new("model, comparisons of long paths, an eighth of all edges", "nodes", NODES, |n| {
             Case::model("", &sweeping, &nodes(n))
         }),
-        Series::new("model, 20 entries", "edges", [64, 512, 4096], |n| Case::model("", &typical, &edges(n))),
+        Series::new("model, 20 entries", "edges", EDGES, |n| Case::model("", &typical, &edges(n))),
+        Series::new("ordering, an eighth repeated", "edges", EDGES, |n| {
+            Case::ordering("", &older(Size { edges: n - n / 8, ..LARGE }, 1, n / 8))
+        }),
     ]
 }
 

@@ -20,17 +20,18 @@ pub const FAST: Judge = judge::<Fast>("fast");
 
 pub const JUDGES: [Judge; 3] = [PROVED, ORACLE, FAST];
 
-/// The operations of document 01.
+/// The operations of documents 01 and 02.
 trait Operations {
     type Finding: Display;
     fn read(pattern: &[u8]) -> Self::Finding;
     fn judge_model(pattern: &[u8], model: &[u8], area: &mut [u8]) -> Self::Finding;
     fn judge_tableau(pattern: &[u8], tableau: &[u8], area: &mut [u8]) -> Self::Finding;
+    fn order(old: &[u8], destination: &mut [u8]) -> Self::Finding;
 }
 
 /// Implements the operations by functions of that form.
 macro_rules! operations {
-    ($name:ident, $finding:ty, $read:path, $judge_model:path, $judge_tableau:path) => {
+    ($name:ident, $finding:ty, $read:path, $judge_model:path, $judge_tableau:path, $order:path) => {
         struct $name;
 
         impl Operations for $name {
@@ -47,24 +48,30 @@ macro_rules! operations {
             fn judge_tableau(pattern: &[u8], tableau: &[u8], area: &mut [u8]) -> $finding {
                 $judge_tableau(pattern, tableau, area)
             }
+
+            fn order(old: &[u8], destination: &mut [u8]) -> $finding {
+                $order(old, destination)
+            }
         }
     };
 }
 
-operations!(Proved, unit::Finding, unit::read, unit::judge_model, unit::judge_tableau);
+operations!(Proved, unit::Finding, unit::read, unit::judge_model, unit::judge_tableau, unit::order);
 operations!(
     Oracle,
     oracle::finding::Finding,
     oracle::pattern::read,
     oracle::model::judge,
-    oracle::tableau::judge
+    oracle::tableau::judge,
+    oracle::model::order
 );
 operations!(
     Fast,
     oracle::finding::Finding,
     crate::fast::read,
     crate::fast::judge_model,
-    crate::fast::judge_tableau
+    crate::fast::judge_tableau,
+    crate::fast::order
 );
 
 const fn judge<O: Operations>(name: &'static str) -> Judge {
@@ -76,6 +83,7 @@ fn judged<O: Operations>(case: &Case, area: &mut [u8]) -> O::Finding {
         Proposal::None => O::read(&case.pattern),
         Proposal::Model(model) => O::judge_model(&case.pattern, model, area),
         Proposal::Tableau(tableau) => O::judge_tableau(&case.pattern, tableau, area),
+        Proposal::Old(old) => O::order(old, area),
     }
 }
 

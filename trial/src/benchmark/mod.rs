@@ -13,17 +13,18 @@ mod report;
 mod stack;
 mod timing;
 
-use inputs::{models, tableaux};
+use inputs::{models, older, tableaux};
 use report::Lines;
 
 /// Begins the tables of a group.
 type Tables = fn() -> Lines;
 
 /// The groups of tables, by name.
-pub const GROUPS: [(&str, Tables); 5] = [
+pub const GROUPS: [(&str, Tables); 6] = [
     ("reading", || report::ratios("reading", inputs::readings())),
     ("model", || report::ratios("model", models::cases())),
     ("tableau", || report::ratios("tableau", tableaux::cases())),
+    ("ordering", || report::ratios("ordering", older::cases())),
     ("growth", || Box::new(growth::all().into_iter().flat_map(report::exponents))),
     ("stack", || report::stacks(inputs::deepest())),
 ];

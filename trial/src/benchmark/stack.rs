@@ -79,6 +79,7 @@ mod tests {
             Proposal::None => 2560,
             Proposal::Model(_) => 10_752,
             Proposal::Tableau(_) => 16_384,
+            Proposal::Old(_) => 4608,
         }
     }
 

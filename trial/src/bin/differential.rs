@@ -111,7 +111,7 @@ fn show(seed: u64, number: u64) -> Result<bool, String> {
         report::findings(&mut Comparer::new(), &input, against(number), &IMPLEMENTATIONS);
     tool::print(findings)?;
     if let Some(difference) = &difference {
-        tool::print(format!("difference {difference}\n"))?;
+        tool::print(format!("difference  {difference}\n"))?;
     }
     Ok(difference.is_none())
 }

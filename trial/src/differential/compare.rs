@@ -21,7 +21,7 @@ pub struct Comparer {
     expected: Vec<u8>,
 }
 
-/// What an implementation did otherwise than the first one, or than document 01 allows.
+/// What an implementation did otherwise than the first one, or than the documents allow.
 #[derive(Clone, Debug, PartialEq, Eq)]
 pub struct Difference {
     pub implementation: String,
@@ -32,7 +32,7 @@ pub struct Difference {
 pub enum What {
     /// Another finding, place or count.
     Finding { expected: Finding, found: Finding },
-    /// Another byte in the area, the first such one.
+    /// Another byte in the area or the destination, the first such one.
     Area { at: usize, before: u8, expected: u8, found: u8 },
     /// A pattern that was changed.
     Pattern,

@@ -60,6 +60,6 @@ impl Judged<'_> {
 }
 
 /// How the second edge's from, axis and to compare with the first's.
-fn compared(edges: &[[u8; 3]]) -> [Ordering; 3] {
+pub fn compared(edges: &[[u8; 3]]) -> [Ordering; 3] {
     [0, 1, 2].map(|field| edges[1][field].cmp(&edges[0][field]))
 }

@@ -1,18 +1,19 @@
-//! What is compared: implementations of document 01's three operations behind one form.
+//! What is compared: implementations of the operations of documents 01 and 02 behind one form.
 
 use crate::fast;
 use crate::generate::input::Operation;
 use oracle::finding::{Finding, Refusal};
 
-/// The bytes lent to an operation. The pattern and the proposal can be changed as far as Rust knows, so
-/// that a comparison can be tested with an implementation that does it.
+/// The bytes lent to an operation; the area of putting a model in order is the destination. The pattern and the
+/// proposal can be changed as far as Rust knows, so that a comparison can be tested with an implementation that does
+/// it.
 pub struct Lent<'a> {
     pub pattern: &'a mut [u8],
     pub proposal: &'a mut [u8],
     pub area: &'a mut [u8],
 }
 
-/// An implementation of the three operations.
+/// An implementation of the operations.
 #[derive(Clone, Copy)]
 pub struct Implementation<'a> {
     pub name: &'a str,
@@ -31,6 +32,8 @@ pub fn run_oracle(operation: Operation, lent: Lent) -> Finding {
         Operation::Reading => oracle::pattern::read(lent.pattern),
         Operation::Model => oracle::model::judge(lent.pattern, lent.proposal, lent.area),
         Operation::Tableau => oracle::tableau::judge(lent.pattern, lent.proposal, lent.area),
+        Operation::Ordering => oracle::model::order(lent.proposal, lent.area),
+        Operation::Ordered => oracle::model::judge_old(lent.pattern, lent.proposal, lent.area),
     }
 }
 
@@ -39,15 +42,44 @@ fn run_fast(operation: Operation, lent: Lent) -> Finding {
         Operation::Reading => fast::read(lent.pattern),
         Operation::Model => fast::judge_model(lent.pattern, lent.proposal, lent.area),
         Operation::Tableau => fast::judge_tableau(lent.pattern, lent.proposal, lent.area),
+        Operation::Ordering => fast::order(lent.proposal, lent.area),
+        Operation::Ordered => judge_ordered(fast::order, fast::judge_model, lent),
     }
 }
 
 fn run_unit(operation: Operation, lent: Lent) -> Finding {
-    let finding = match operation {
-        Operation::Reading => unit::read(lent.pattern),
-        Operation::Model => unit::judge_model(lent.pattern, lent.proposal, lent.area),
-        Operation::Tableau => unit::judge_tableau(lent.pattern, lent.proposal, lent.area),
-    };
+    let order = |old: &[u8], new: &mut [u8]| found(unit::order(old, new));
+    let judge =
+        |pattern: &[u8], model: &[u8], area: &mut [u8]| found(unit::judge_model(pattern, model, area));
+    match operation {
+        Operation::Reading => found(unit::read(lent.pattern)),
+        Operation::Model => judge(lent.pattern, lent.proposal, lent.area),
+        Operation::Tableau => found(unit::judge_tableau(lent.pattern, lent.proposal, lent.area)),
+        Operation::Ordering => order(lent.proposal, lent.area),
+        Operation::Ordered => judge_ordered(order, judge, lent),
+    }
+}
+
+/// Puts the model in order and judges the new file. If it can't be put in order, gives what is refused before a model,
+/// or else what was refused of it.
+pub fn judge_ordered(
+    order: impl Fn(&[u8], &mut [u8]) -> Finding,
+    judge: impl Fn(&[u8], &[u8], &mut [u8]) -> Finding,
+    lent: Lent,
+) -> Finding {
+    let mut new = [0; unit::MODEL_LONGEST];
+    match order(lent.proposal, &mut new) {
+        Finding::Written { length } => judge(lent.pattern, &new[..length.into()], lent.area),
+        refused => match judge(lent.pattern, &[], lent.area) {
+            // What is refused first of a model without bytes: pattern and area pass.
+            Finding::Refused(Refusal { number: 10, .. }) => refused,
+            before => before,
+        },
+    }
+}
+
+/// What the proved library found.
+fn found(finding: unit::Finding) -> Finding {
     match finding {
         unit::Finding::Read { entries } => Finding::Read { entries },
         unit::Finding::Met { lowest, number } => Finding::Met { lowest, number },
@@ -55,6 +87,7 @@ fn run_unit(operation: Operation, lent: Lent) -> Finding {
         unit::Finding::Closed { steps, clashes, forks, most } => {
             Finding::Closed { steps, clashes, forks, most }
         }
+        unit::Finding::Written { length } => Finding::Written { length },
         unit::Finding::Refused { number, place } => Finding::Refused(Refusal { number, place }),
     }
 }

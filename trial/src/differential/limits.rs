@@ -122,12 +122,12 @@ impl<'a> Judged<'a> {
     }
 
     /// The 16-bit count that stands at this place of the proposal.
-    fn count(&self, at: usize) -> u16 {
+    pub(super) fn count(&self, at: usize) -> u16 {
         u16::from_le_bytes([self.input.proposal[at], self.input.proposal[at + 1]])
     }
 
     /// Whether a model was refused 12 though it has the length that its counts make.
-    fn counts_refused(&self) -> bool {
+    pub(super) fn counts_refused(&self) -> bool {
         let length = || {
             let [nodes, names] = [self.nodes(), self.input.proposal[6]].map(usize::from);
             9 + 12 * nodes + 2 * names + 3 * self.count(7) as usize

@@ -17,6 +17,7 @@ impl Tally {
             (self.met, "finding met".to_string()),
             (self.unmet, "finding unmet".to_string()),
             (self.closed, "finding closed".to_string()),
+            (self.written, "finding written".to_string()),
             (self.unmet_as_closed, "a model judged for a pattern with a closed tableau".to_string()),
             (self.open_as_met, "a tableau judged for a pattern with a model that meets it".to_string()),
         ];
@@ -28,7 +29,9 @@ impl Tally {
         }
         self.add_rules(&mut seen);
         for Situations { sort, shown, .. } in SITUATIONS {
-            seen.extend(shown.iter().map(|(words, _)| (self.shown(words), format!("{sort}: {words}"))));
+            seen.extend(
+                shown.iter().map(|(words, _)| (self.showing(sort, words), format!("{sort}: {words}"))),
+            );
         }
         for (names, (what, _)) in self.names.iter().zip(EACH_NAME) {
             let each = 0..=MAX_NAME.into();
@@ -65,6 +68,8 @@ pub fn refusals(operation: Operation) -> Chain<RangeInclusive<usize>, RangeInclu
         Operation::Reading => (1..=7).chain(8..=8),
         Operation::Model => (1..=14).chain(27..=28),
         Operation::Tableau => (1..=9).chain(15..=26),
+        Operation::Ordering => (10..=14).chain(29..=29),
+        Operation::Ordered => (1..=14).chain(27..=27),
     }
 }
 
@@ -73,5 +78,7 @@ pub fn words(operation: Operation) -> &'static str {
         Operation::Reading => "reading a pattern",
         Operation::Model => "judging a model",
         Operation::Tableau => "judging a tableau",
+        Operation::Ordering => "putting a model in order",
+        Operation::Ordered => "judging a model put in order",
     }
 }

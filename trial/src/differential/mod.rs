@@ -1,11 +1,11 @@
 //! The proved library compared with other implementations on generated inputs: finding, place, counts
-//! and every byte of the area.
+//! and every byte of the area or the destination.
 //!
 //! `run` takes the inputs in turn; `compare` runs each by every `implementation` in `guarded` memory, and
 //! `fault` names it if it is left; `tally` counts what occurred (`limits` says which limits an input
 //! shows, `names` what it shows of the pattern's names, `edges` of the order of a model's edges, `fresh` of
-//! the names that a tableau asks for, `slots` of entries that share one; `situations` has them all), `missing`
-//! what never did, and `table` prints it; `report` shows one input in full.
+//! the names that a tableau asks for, `slots` of entries that share one, `older` of older models; `situations` has
+//! them all), `missing` what never did, and `table` prints it; `report` shows one input in full.
 
 pub mod compare;
 mod edges;
@@ -16,6 +16,7 @@ pub mod implementation;
 mod limits;
 mod missing;
 mod names;
+mod older;
 pub mod report;
 pub mod run;
 mod situations;

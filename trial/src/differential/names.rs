@@ -2,7 +2,7 @@
 //! name must show in a run.
 
 use super::limits::{Judged, Limit};
-use crate::generate::input::Never;
+use crate::generate::input::{Never, Operation};
 use oracle::finding::Finding;
 use oracle::pattern;
 
@@ -32,7 +32,7 @@ pub type OfName = (&'static str, fn(&Judged) -> Option<usize>);
 
 /// What a run must see of each of the 128 names.
 pub const EACH_NAME: [OfName; 4] = [
-    ("refused 27", |it| it.place(27)),
+    ("refused 27", |it| it.place(27).filter(|_| it.input.operation == Operation::Model)),
     ("refused 18", |it| it.at_start().map(|had| had.name.into())),
     ("of the branch refused 22", |it| it.on_branch().map(|had| had.name.into())),
     ("of the pattern refused 22", |it| it.in_pattern().map(|had| had.name.into())),

@@ -12,14 +12,20 @@ use std::fmt::Write;
 pub fn describe(input: &Input, seed: u64, number: u64) -> String {
     let mut text = format!("input {number} of seed {seed}: {}\n", input.kind.words());
     let mut line = |label: &str, words: String| {
-        writeln!(text, "{label:<11}{words}").expect("a string takes any text");
+        writeln!(text, "{label:<12}{words}").expect("a string takes any text");
     };
     line("operation", words(input.operation).to_string());
-    line("pattern", in_hex(&input.pattern));
+    let (proposal, area) = match input.operation {
+        Operation::Ordering => ("old file", "destination"),
+        _ => ("proposal", "area"),
+    };
+    if input.operation != Operation::Ordering {
+        line("pattern", in_hex(&input.pattern));
+    }
     if input.operation != Operation::Reading {
         let Area { length, fill } = input.area;
-        line("proposal", in_hex(&input.proposal));
-        line("area", format!("{length} bytes, byte k is 1 + ((k + {fill}) * 101 mod 251)"));
+        line(proposal, in_hex(&input.proposal));
+        line(area, format!("{length} bytes, byte k is 1 + ((k + {fill}) * 101 mod 251)"));
     }
     text
 }
@@ -37,7 +43,7 @@ pub fn findings(
             Ok(finding) => finding.to_string(),
             Err(what) => format!("{what:?}"),
         };
-        writeln!(text, "{:<11}{found}", implementation.name).expect("a string takes any text");
+        writeln!(text, "{:<12}{found}", implementation.name).expect("a string takes any text");
     }
     (text, comparer.compare(input, against, implementations).err())
 }

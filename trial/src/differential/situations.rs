@@ -4,24 +4,59 @@ use super::edges::EDGES;
 use super::fresh::FRESH;
 use super::limits::{LIMITS, Limit};
 use super::names::NAMES;
+use super::older::{JUDGED_OLD, ORDERED};
 use super::slots::SHARED;
+use crate::generate::input::Operation;
 
-/// Situations of one sort: the heading of their table, the words before one that is missing, and which inputs show
-/// each.
+/// Situations of one sort: the heading of their table, the words before one that is missing, the operations whose
+/// inputs can show them, and which of those show each.
 pub struct Situations {
     pub heading: &'static str,
     pub sort: &'static str,
+    pub of: &'static [Operation],
     pub shown: &'static [Limit],
 }
 
-pub const SITUATIONS: [Situations; 5] = [
-    Situations { heading: "limits", sort: "limit", shown: &LIMITS },
+const READING: &[Operation] = &[Operation::Reading];
+const MODEL: &[Operation] = &[Operation::Model];
+const TABLEAU: &[Operation] = &[Operation::Tableau];
+
+pub const SITUATIONS: [Situations; 7] = [
+    Situations {
+        heading: "limits",
+        sort: "limit",
+        of: &[Operation::Reading, Operation::Model, Operation::Tableau],
+        shown: &LIMITS,
+    },
     Situations {
         heading: "names that the pattern uses and those that the model lists",
         sort: "names",
+        of: MODEL,
         shown: &NAMES,
     },
-    Situations { heading: "edge records and the records before them", sort: "edges", shown: &EDGES },
-    Situations { heading: "start names and fresh names", sort: "fresh names", shown: &FRESH },
-    Situations { heading: "entries that share a slot, and repeats", sort: "slots", shown: &SHARED },
+    Situations {
+        heading: "edge records and the records before them",
+        sort: "edges",
+        of: MODEL,
+        shown: &EDGES,
+    },
+    Situations { heading: "start names and fresh names", sort: "fresh names", of: TABLEAU, shown: &FRESH },
+    Situations {
+        heading: "entries that share a slot, and repeats",
+        sort: "slots",
+        of: READING,
+        shown: &SHARED,
+    },
+    Situations {
+        heading: "older models put in order, and their destinations",
+        sort: "older models",
+        of: &[Operation::Ordering],
+        shown: &ORDERED,
+    },
+    Situations {
+        heading: "older models judged when put in order",
+        sort: "older models judged",
+        of: &[Operation::Ordered],
+        shown: &JUDGED_OLD,
+    },
 ];

@@ -18,6 +18,7 @@ impl fmt::Display for Tally {
         writeln!(f, "{:>12}    met", self.met)?;
         writeln!(f, "{:>12}    unmet", self.unmet)?;
         writeln!(f, "{:>12}    closed, {} distinct tableaux", self.closed, self.distinct.len())?;
+        writeln!(f, "{:>12}    written", self.written)?;
         for operation in Operation::ALL {
             self.write_refusals(f, operation)?;
         }
@@ -70,7 +71,7 @@ impl Tally {
     fn write_shown(&self, f: &mut fmt::Formatter<'_>, situations: Situations) -> fmt::Result {
         writeln!(f, "{}", situations.heading)?;
         for (words, _) in situations.shown {
-            writeln!(f, "{:>12}    {words}", self.shown(words))?;
+            writeln!(f, "{:>12}    {words}", self.showing(situations.sort, words))?;
         }
         Ok(())
     }

@@ -2,7 +2,7 @@
 
 use super::limits::Judged;
 use super::names::EACH_NAME;
-use super::situations::SITUATIONS;
+use super::situations::{SITUATIONS, Situations};
 use crate::generate::input::{Input, Kind, Never, Operation};
 use oracle::finding::{Finding, Refusal};
 use oracle::tableau::{HEADER_BYTES, STEP_BYTES};
@@ -10,7 +10,7 @@ use std::collections::{BTreeMap, BTreeSet, HashSet};
 use std::hash::{DefaultHasher, Hash, Hasher};
 
 /// The largest refusal number and the largest rule number.
-const REFUSALS: usize = 28;
+const REFUSALS: usize = 29;
 const RULES: usize = 23;
 
 /// How many lengths of short files are counted: 0 to 10 bytes.
@@ -40,14 +40,15 @@ pub struct Tally {
     pub met: u64,
     pub unmet: u64,
     pub closed: u64,
+    pub written: u64,
     /// Refusals by operation and number.
     pub refused: [[Refused; REFUSALS + 1]; Operation::ALL.len()],
     pub rules: [RuleUse; RULES + 1],
-    /// Inputs that show a limit or another situation, by its words; none for what no input shows.
-    pub limits: BTreeMap<&'static str, u64>,
+    /// Inputs that show a limit or another situation, by its sort and words; none for what no input shows.
+    pub shown: BTreeMap<(&'static str, &'static str), u64>,
     /// The names that showed what each must show.
     pub names: [BTreeSet<usize>; EACH_NAME.len()],
-    /// Files of 0 to 10 bytes: patterns, models and tableaux.
+    /// Files of 0 to 10 bytes, by operation: patterns for reading, else models or tableaux.
     pub short: [[u64; SHORT]; Operation::ALL.len()],
     /// Models judged unmet of a pattern with a closed tableau.
     pub unmet_as_closed: u64,
@@ -63,14 +64,18 @@ impl Tally {
         self.inputs += 1;
         self.kinds[input.kind as usize] += 1;
         let judged = Judged::new(input, finding);
-        let situations = SITUATIONS.iter().flat_map(|table| table.shown);
-        for (limit, _) in situations.filter(|(_, shows)| shows(&judged)) {
-            *self.limits.entry(limit).or_default() += 1;
+        let tables = SITUATIONS.iter().filter(|table| table.of.contains(&input.operation));
+        for &Situations { sort, shown, .. } in tables {
+            for (words, _) in shown.iter().filter(|(_, shows)| shows(&judged)) {
+                *self.shown.entry((sort, words)).or_default() += 1;
+            }
         }
         for (names, (_, shown_of)) in self.names.iter_mut().zip(EACH_NAME) {
             names.extend(shown_of(&judged));
         }
-        self.count_short(Operation::Reading, &input.pattern);
+        if input.operation != Operation::Ordering {
+            self.count_short(Operation::Reading, &input.pattern);
+        }
         if input.operation != Operation::Reading {
             self.count_short(input.operation, &input.proposal);
         }
@@ -79,6 +84,7 @@ impl Tally {
             Finding::Met { .. } => self.met += 1,
             Finding::Unmet => self.unmet += 1,
             Finding::Closed { .. } => self.count_closed(input),
+            Finding::Written { .. } => self.written += 1,
             Finding::Refused(refusal) => self.count_refused(input, refusal),
         }
         match (input.never, finding) {
@@ -129,6 +135,7 @@ impl Tally {
             (&mut self.met, other.met),
             (&mut self.unmet, other.unmet),
             (&mut self.closed, other.closed),
+            (&mut self.written, other.written),
             (&mut self.unmet_as_closed, other.unmet_as_closed),
             (&mut self.open_as_met, other.open_as_met),
         ]);
@@ -145,8 +152,8 @@ impl Tally {
             mine.times += theirs.times;
             mine.deepest = mine.deepest.max(theirs.deepest);
         }
-        for (limit, times) in &other.limits {
-            *self.limits.entry(limit).or_default() += times;
+        for (situation, times) in &other.shown {
+            *self.shown.entry(*situation).or_default() += times;
         }
         for (mine, theirs) in self.names.iter_mut().zip(&other.names) {
             mine.extend(theirs);
@@ -154,8 +161,8 @@ impl Tally {
         self.distinct.extend(&other.distinct);
     }
 
-    /// How many inputs show the limit or the situation.
-    pub fn shown(&self, limit: &str) -> u64 {
-        self.limits.get(limit).copied().unwrap_or_default()
+    /// How many inputs show the situation of this sort.
+    pub fn showing(&self, sort: &str, words: &str) -> u64 {
+        self.shown.get(&(sort, words)).copied().unwrap_or_default()
     }
 }

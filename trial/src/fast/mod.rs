@@ -1,9 +1,11 @@
 //! Document 01, with the requests of document 02 that have landed, implemented for speed, to measure the proved
-//! library against: no allocation, no code shared with the other implementations but the type of a finding.
+//! library against: no allocation but for edges to be sorted, no code shared with the other implementations but the
+//! type of a finding.
 //!
 //! - `pattern` reads a pattern in one pass over its entries;
 //! - `model` reads a model file, `reach` finds what the root needs, `evaluate` works upward through those
 //!   entries with sets of nodes as 64-bit words (`axes`, `classes` and `compare` are its parts);
+//! - `order` puts an older model in order by sorting its edges;
 //! - `tableau` checks a tableau file, `walk` goes along its branches, `rules` concludes, and `line` packs
 //!   a line of a branch into 64 bits.
 
@@ -13,6 +15,7 @@ mod compare;
 mod evaluate;
 mod line;
 mod model;
+mod order;
 mod pattern;
 mod reach;
 mod rules;
@@ -43,6 +46,14 @@ pub fn judge_model(pattern: &[u8], model: &[u8], area: &mut [u8]) -> Finding {
 /// Judges a tableau for a pattern.
 pub fn judge_tableau(pattern: &[u8], tableau: &[u8], area: &mut [u8]) -> Finding {
     tableau::judge(pattern, tableau, area).unwrap_or_else(Finding::Refused)
+}
+
+/// Puts an older model in order.
+pub fn order(old: &[u8], destination: &mut [u8]) -> Finding {
+    match order::order(old, destination) {
+        Ok(length) => Finding::Written { length: length as u16 },
+        Err(refusal) => Finding::Refused(refusal),
+    }
 }
 
 /// A refusal whose place is 0.

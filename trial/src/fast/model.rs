@@ -8,12 +8,17 @@ use oracle::finding::Refusal;
 pub struct Model<'a> {
     /// Property set and values, as the file has them.
     records: &'a [[u8; 12]],
+    names: Names,
+    /// By axis and node, the set of nodes that the axis leads from to this node.
+    predecessors: [[u64; 64]; 8],
+}
+
+/// The names that a model lists.
+pub struct Names {
     /// The node of each name, 0 if it isn't listed.
     named: [u8; 128],
     /// The names that are listed, as a set of bits.
     listed: u128,
-    /// By axis and node, the set of nodes that the axis leads from to this node.
-    predecessors: [[u64; 64]; 8],
 }
 
 /// The set of nodes where the root holds, or refusals 1 to 14, 28 and 27.
@@ -22,25 +27,24 @@ pub fn judge(bytes: &[u8], model: &[u8], area: &mut [u8]) -> Result<u64, Refusal
     let (holds, _) = area.as_chunks_mut::<8>();
     let holds: &mut Holds = holds.first_chunk_mut().ok_or(refused(9))?;
     let file = File::parse(model)?;
-    let mut model = Model { records: file.records, named: [0; 128], listed: 0, predecessors: [[0; 64]; 8] };
-    model.add_names(file.names)?;
+    let mut model = Model { records: file.records, names: file.names()?, predecessors: [[0; 64]; 8] };
     model.add_edges(file.edges)?;
-    model.check_names(pattern::used_names(entries))?;
+    model.names.check(pattern::used_names(entries))?;
     let nodes = root_nodes(entries, &model, holds);
     holds.fill([0; 8]);
     Ok(nodes)
 }
 
 /// The records of a model file.
-struct File<'a> {
-    records: &'a [[u8; 12]],
+pub struct File<'a> {
+    pub records: &'a [[u8; 12]],
     names: &'a [[u8; 2]],
-    edges: &'a [[u8; 3]],
+    pub edges: &'a [[u8; 3]],
 }
 
 impl<'a> File<'a> {
     /// Refusals 10 to 12, or the records.
-    fn parse(bytes: &'a [u8]) -> Result<File<'a>, Refusal> {
+    pub fn parse(bytes: &'a [u8]) -> Result<File<'a>, Refusal> {
         let (header, rest) = body::<9>(bytes, b"DAT", 10)?;
         let &[_, _, _, _, _, n, m, low, high] = header;
         let (nodes, names, edges) = (n as usize, m as usize, u16::from_le_bytes([low, high]) as usize);
@@ -54,46 +58,56 @@ impl<'a> File<'a> {
         let (edges, _) = rest[edges_at..].as_chunks();
         Ok(File { records, names, edges })
     }
-}
 
-impl Model<'_> {
-    fn add_names(&mut self, names: &[[u8; 2]]) -> Result<(), Refusal> {
-        for (place, &[name, node]) in names.iter().enumerate() {
-            let repeated = self.listed >> (name % 128) & 1 == 1;
-            match self.named.get_mut(name as usize) {
+    /// Refusal 13, or the names.
+    pub fn names(&self) -> Result<Names, Refusal> {
+        let mut names = Names { named: [0; 128], listed: 0 };
+        for (place, &[name, node]) in self.names.iter().enumerate() {
+            let repeated = names.listed >> (name % 128) & 1 == 1;
+            match names.named.get_mut(name as usize) {
                 Some(named) if !repeated && (node as usize) < self.records.len() => *named = node,
                 _ => return Err(Refusal { number: 13, place: place as u16 }),
             }
-            self.listed |= 1 << (name % 128);
+            names.listed |= 1 << (name % 128);
         }
-        Ok(())
+        Ok(names)
     }
+}
 
-    fn add_edges(&mut self, edges: &[[u8; 3]]) -> Result<(), Refusal> {
-        let nodes = self.records.len() as u8;
-        let predecessors = self.predecessors.as_flattened_mut();
-        // The least that the next record may be, as a number of from, axis and to, the highest bits first.
-        let mut least = 0;
-        for (place, &[from, axis, to]) in edges.iter().enumerate() {
-            if from >= nodes || axis > 7 || to >= nodes {
-                return Err(Refusal { number: 14, place: place as u16 });
-            }
-            let record = (from as usize) << 9 | (axis as usize) << 6 | to as usize;
-            if record < least {
-                return Err(Refusal { number: 28, place: place as u16 });
-            }
-            least = record + 1;
-            predecessors[record % 512] |= 1 << (from % 64);
-        }
-        Ok(())
-    }
-
+impl Names {
     /// Refusal 27 with the lowest of the names that isn't listed, if there is one.
-    fn check_names(&self, used: u128) -> Result<(), Refusal> {
+    fn check(&self, used: u128) -> Result<(), Refusal> {
         match used & !self.listed {
             0 => Ok(()),
             missing => Err(Refusal { number: 27, place: missing.trailing_zeros() as u16 }),
         }
+    }
+}
+
+/// An edge of a model of so many nodes as a number of from, axis and to, the highest bits first, by which edges rise;
+/// or refusal 14.
+pub fn rank(&[from, axis, to]: &[u8; 3], place: usize, nodes: usize) -> Result<u16, Refusal> {
+    if from as usize >= nodes || axis > 7 || to as usize >= nodes {
+        return Err(Refusal { number: 14, place: place as u16 });
+    }
+    Ok((from as u16) << 9 | (axis as u16) << 6 | to as u16)
+}
+
+impl Model<'_> {
+    fn add_edges(&mut self, edges: &[[u8; 3]]) -> Result<(), Refusal> {
+        let nodes = self.records.len();
+        let predecessors = self.predecessors.as_flattened_mut();
+        // The least that the next edge may be.
+        let mut least = 0;
+        for (place, edge) in edges.iter().enumerate() {
+            let rank = rank(edge, place, nodes)?;
+            if rank < least {
+                return Err(Refusal { number: 28, place: place as u16 });
+            }
+            least = rank + 1;
+            predecessors[rank as usize % 512] |= 1 << (rank >> 9);
+        }
+        Ok(())
     }
 
     pub fn node_count(&self) -> usize {
@@ -107,7 +121,7 @@ impl Model<'_> {
 
     /// The node of a name.
     pub fn node(&self, name: u8) -> u32 {
-        self.named[name as usize % 128] as u32
+        self.names.named[name as usize % 128] as u32
     }
 
     /// The nodes that have a property.

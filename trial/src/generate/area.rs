@@ -1,9 +1,11 @@
-//! The working areas that are lent: of every relevant length, and filled so that any change is seen.
+//! The working areas and destinations that are lent: of every relevant length, and filled so that any change is
+//! seen.
 
 use super::input::Operation;
+use oracle::model;
 use oracle::random::Random;
 
-/// The working area as it is lent.
+/// The working area or the destination as it is lent.
 #[derive(Clone, Copy, Debug, PartialEq, Eq)]
 pub struct Area {
     pub length: usize,
@@ -12,7 +14,7 @@ pub struct Area {
 }
 
 /// The longest area that is lent.
-pub const LONGEST_AREA: usize = 12_000;
+pub const LONGEST_AREA: usize = 14_000;
 
 /// What areas are filled with: no byte is zero and neighbours differ, so that a byte that was zeroed,
 /// overwritten or moved is seen.
@@ -43,6 +45,24 @@ impl Area {
             2..5 => random.between(need, LONGEST_AREA),
             5..9 => need + 1,
             _ => need,
+        };
+        Area { length, fill: random.byte() }
+    }
+
+    /// A destination for the old file: mostly as long as the new file, often a byte longer or shorter, or between the
+    /// new file and the old one; else of any length. For a file that is refused, the new one would be as long.
+    pub fn destination(random: &mut Random, old: &[u8]) -> Area {
+        let old_length = old.len().min(LONGEST_AREA - 1);
+        let new_length = model::in_order(old).map_or(old_length, |new| new.len());
+        let length = match random.below(16) {
+            0 => random.pick(&[0, 0, 1, 8, 9]),
+            1 => random.between(0, LONGEST_AREA),
+            2..5 => new_length.saturating_sub(1),
+            5..8 => random.between(new_length, old_length),
+            8 => old_length,
+            9..11 => new_length + 1,
+            11 => random.between(new_length, LONGEST_AREA),
+            _ => new_length,
         };
         Area { length, fill: random.byte() }
     }

@@ -20,10 +20,15 @@ pub fn disorder(random: &mut Random, file: &mut [u8]) -> bool {
     }
     if random.once_in(3) {
         let spoilt = if random.once_in(2) { place } else { random.below(edges.len()) };
-        let field = random.below(3);
-        edges[spoilt][field] = random.pick(&[limits(nodes)[field], 255]);
+        spoil(random, &mut edges[spoilt], nodes);
     }
     !edges.is_sorted_by(|one, next| one < next)
+}
+
+/// Puts a field of the record out of range.
+pub fn spoil(random: &mut Random, record: &mut [u8; 3], nodes: u8) {
+    let field = random.below(3);
+    record[field] = random.pick(&[limits(nodes)[field], 255]);
 }
 
 /// Makes the record one that doesn't come after the record before it, from which it has its fields: a repeat, or

@@ -2,22 +2,31 @@
 
 use super::area::Area;
 
-/// The three operations of document 01.
+/// The operations of documents 01 and 02, and a judgement of what one of them writes.
 #[derive(Clone, Copy, Debug, PartialEq, Eq, Hash)]
 pub enum Operation {
     Reading,
     Model,
     Tableau,
+    /// Putting an older model in order, without a pattern. What is lent as the area is the destination.
+    Ordering,
+    /// Judging an older model when it has been put in order.
+    Ordered,
 }
 
 impl Operation {
-    pub const ALL: [Operation; 3] = [Operation::Reading, Operation::Model, Operation::Tableau];
+    pub const ALL: [Operation; 5] =
+        [Operation::Reading, Operation::Model, Operation::Tableau, Operation::Ordering, Operation::Ordered];
+
+    /// Those that have a pattern.
+    pub const OF_PATTERNS: [Operation; 4] =
+        [Operation::Reading, Operation::Model, Operation::Tableau, Operation::Ordered];
 
     /// The bytes of working area without which it is refused 9.
     pub fn need(self) -> usize {
         match self {
-            Operation::Reading => 0,
-            Operation::Model => 2040,
+            Operation::Reading | Operation::Ordering => 0,
+            Operation::Model | Operation::Ordered => 2040,
             Operation::Tableau => 8192,
         }
     }
@@ -66,10 +75,15 @@ kinds! {
     PlannedTableau "a planned tableau"
     MutatedPlannedTableau "a mutated planned tableau"
     OtherName "a planned tableau that asks for another name"
-    Exchanged "a proposal handed to the other judgement"
+    Exchanged "a proposal handed to another operation"
     Unrelated "unrelated bytes"
     ModelOfClosed "a model for a pattern with a closed tableau"
     TableauOfMet "a tableau for a pattern with a model that meets it"
+    OldModel "an older model to be put in order"
+    MutatedOldModel "a mutated older model to be put in order"
+    OldModelLimit "an older model at a limit or one over, to be put in order"
+    ModelInOrder "a model in order to be put in order"
+    JudgedOldModel "an older model to be judged when put in order"
 }
 
 /// One input. The same value serves for one input after another, so that its buffers are kept where they can.
@@ -77,9 +91,11 @@ kinds! {
 pub struct Input {
     pub kind: Kind,
     pub operation: Operation,
+    /// The pattern file; empty where a model is put in order.
     pub pattern: Vec<u8>,
     /// The model or tableau file; empty for a reading.
     pub proposal: Vec<u8>,
+    /// The working area, or the destination of a model that is put in order.
     pub area: Area,
     pub never: Option<Never>,
 }

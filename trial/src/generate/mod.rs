@@ -3,9 +3,10 @@
 //! `recipes` makes an input of each kind, of these parts: `patterns` and `crowd` make random patterns, `slots`
 //! those whose entries share slots, `models` random models, `walk` random tableaux; `corpus` keeps what the
 //! planner found for them and for patterns that can't occur, which `contradiction` and `composition` make.
-//! `rename`, `asked`, `disorder` and `mutate` change files, and `limits` writes those at document 01's limits.
-//! `area` is the working area.
+//! `rename`, `asked`, `disorder`, `age` and `mutate` change files, and `limits` writes those at document 01's limits.
+//! `area` is the working area, or the destination of a model that is put in order.
 
+mod age;
 pub mod area;
 mod asked;
 mod composition;

@@ -3,6 +3,7 @@
 use oracle::random::Random;
 use trial::benchmark::case::{Case, Proposal};
 use trial::benchmark::inputs::models::{self, Size, random_model};
+use trial::benchmark::inputs::older::{self, older};
 use trial::benchmark::inputs::tableaux::{self, Fresh, workshop};
 use trial::benchmark::inputs::{patterns, readings};
 use trial::benchmark::judge::{FAST, ORACLE};
@@ -105,8 +106,9 @@ fn agree_mutated(case: &Case, times: u64) {
             Proposal::None => Proposal::None,
             Proposal::Model(model) => Proposal::Model(changed(model)),
             Proposal::Tableau(tableau) => Proposal::Tableau(changed(tableau)),
+            Proposal::Old(old) => Proposal::Old(changed(old)),
         };
-        let length = random.pick(&[8192, 8192, 8200, 8191, 2040, 2039, 0]);
+        let length = random.pick(&[8192, 8192, 8200, 8191, 2040, 2039, 100, 0]);
         agree(&Case { name: case.name.clone(), pattern, proposal }, length);
     }
 }
@@ -122,6 +124,38 @@ fn mutated_readings() {
 fn mutated_models() {
     for seed in 0..60 {
         agree_mutated(&mixed_case(seed), 30);
+    }
+}
+
+/// An older model, different ones for each seed.
+fn older_case(seed: u64) -> Case {
+    let mut random = Random::new(seed, 5);
+    let size = Size {
+        nodes: random.between(1, 64),
+        names: random.below(129),
+        edges: random.between(1, 8),
+        axes: random.between(1, 8),
+        values: 2,
+    };
+    Case::ordering("older", &older(size, seed, random.below(300)))
+}
+
+#[test]
+fn older_models() {
+    for seed in 0..1000 {
+        agree(&older_case(seed), 13_321);
+        agree(&older_case(seed), 1000);
+    }
+    for case in older::cases() {
+        agree(&case, 13_321);
+        agree(&case, 13_320);
+    }
+}
+
+#[test]
+fn mutated_older_models() {
+    for seed in 0..60 {
+        agree_mutated(&older_case(seed), 30);
     }
 }
 

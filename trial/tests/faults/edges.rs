@@ -113,7 +113,7 @@ pub fn unordered(refuses: fn(&Edges) -> Option<Refusal>, operation: Operation, l
         finding,
         Finding::Met { .. } | Finding::Unmet | Finding::Refused(Refusal { number: 14 | 27 | 28, .. })
     );
-    if !looked_at {
+    if operation != Operation::Model || !looked_at {
         lent.area.copy_from_slice(&kept);
         return finding;
     }

@@ -1,8 +1,9 @@
-//! Judges with a fault planted in them.
+//! Judges, and an orderer, with a fault planted in them.
 
 pub mod edges;
 pub mod fresh;
 pub mod model;
 pub mod names;
+pub mod ordering;
 pub mod slots;
 pub mod tableau;

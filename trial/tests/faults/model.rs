@@ -57,7 +57,7 @@ fn change_entries(pattern: &mut Pattern, change: fn(Entry) -> Entry) {
 pub fn misread(change: fn(&mut Pattern, &mut Model), operation: Operation, lent: Lent) -> Finding {
     let (pattern, proposal) = (lent.pattern.to_vec(), lent.proposal.to_vec());
     match run_oracle(operation, lent) {
-        Finding::Met { .. } | Finding::Unmet => {
+        Finding::Met { .. } | Finding::Unmet if operation == Operation::Model => {
             let mut pattern = pattern::parse(&pattern).expect("it was read");
             let mut model = model::parse(&proposal).expect("it was judged");
             change(&mut pattern, &mut model);

@@ -58,8 +58,11 @@ pub fn mistaken(place: fn(&Pattern, &Model) -> Option<u16>, operation: Operation
     let mut kept = lent.area.to_vec();
     let oracle = Lent { pattern: &mut *lent.pattern, proposal: &mut *lent.proposal, area: &mut kept };
     let finding = run_oracle(operation, oracle);
-    if !matches!(finding, Finding::Met { .. } | Finding::Unmet | Finding::Refused(Refusal { number: 27, .. }))
-    {
+    let looked_at = matches!(
+        finding,
+        Finding::Met { .. } | Finding::Unmet | Finding::Refused(Refusal { number: 27, .. })
+    );
+    if operation != Operation::Model || !looked_at {
         lent.area.copy_from_slice(&kept);
         return finding;
     }
@@ -76,7 +79,8 @@ pub fn mistaken(place: fn(&Pattern, &Model) -> Option<u16>, operation: Operation
 pub fn names_before_edges<const NUMBER: u16>(operation: Operation, lent: Lent) -> Finding {
     let (pattern, proposal) = (lent.pattern.to_vec(), lent.proposal.to_vec());
     let finding = run_oracle(operation, lent);
-    if !matches!(finding, Finding::Refused(Refusal { number, .. }) if number == NUMBER) {
+    let looked_at = matches!(finding, Finding::Refused(Refusal { number, .. }) if number == NUMBER);
+    if operation != Operation::Model || !looked_at {
         return finding;
     }
     match model::judge(&pattern, &parted(&proposal).0, &mut [0; model::AREA]) {

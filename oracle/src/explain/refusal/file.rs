@@ -1,6 +1,6 @@
 //! What stands at the place of a refusal of a file: 1 to 8, 10 to 14, 15 to 18, 28.
 
-use super::sentence;
+use super::{refused, sentence};
 use crate::bytes::u16_at;
 use crate::explain::wording::{count, counts, hexadecimal};
 use crate::finding::Refusal;
@@ -36,19 +36,23 @@ pub fn of_pattern(bytes: &[u8], refusal: Refusal) -> String {
 }
 
 pub fn of_model(bytes: &[u8], refusal: Refusal) -> String {
+    sentence(refusal, &model_detail(bytes, refusal))
+}
+
+/// What stands at the place of refusal 10 to 14 or 28 of a model file.
+pub fn model_detail(bytes: &[u8], refusal: Refusal) -> String {
     if matches!(refusal.number, 10 | 11) {
-        return sentence(refusal, &beginning(bytes));
+        return beginning(bytes);
     }
     let (nodes, names, edges) = (bytes[5] as usize, bytes[6] as usize, u16_at(bytes, 7) as usize);
     let name_records = model::HEADER_BYTES + model::NODE_BYTES * nodes;
     let edge_records = name_records + model::NAME_BYTES * names;
-    let detail = match refusal.number {
+    match refusal.number {
         12 => lengths(bytes, &counts(nodes, names, edges), edge_records + model::EDGE_BYTES * edges),
         13 => name_record(&bytes[name_records..], refusal.place as usize, nodes),
         14 => edge_record(&bytes[edge_records..], refusal.place as usize, nodes),
-        _ => edge_order(&bytes[edge_records..], refusal.place as usize),
-    };
-    sentence(refusal, &detail)
+        _ => format!("{}\n{}", edge_order(&bytes[edge_records..], refusal.place as usize), remedy(bytes)),
+    }
 }
 
 pub fn of_tableau(pattern: &Pattern, bytes: &[u8], refusal: Refusal) -> String {
@@ -129,6 +133,14 @@ fn edge_order(records: &[u8], place: usize) -> String {
         edge_fields(records, place),
         edge_fields(records, before)
     )
+}
+
+/// What helps against edges out of order, unless a later one is at fault besides.
+fn remedy(bytes: &[u8]) -> String {
+    match model::parse_old(bytes) {
+        Ok(_) => "The tool `order` writes the same model with its edges in order.".to_string(),
+        Err(later) => format!("Behind it stands another fault: {}.", refused(later)),
+    }
 }
 
 fn edge_fields(records: &[u8], place: usize) -> String {

@@ -4,7 +4,7 @@ mod file;
 mod names;
 mod step;
 
-pub use file::{of_model, of_pattern, of_tableau};
+pub use file::{model_detail, of_model, of_pattern, of_tableau};
 pub use names::of_names;
 pub use step::of_step;
 
@@ -29,8 +29,8 @@ pub fn refused(refusal: Refusal) -> String {
     format!("{}{where_at}: {}", Finding::Refused(refusal), MEANINGS[number as usize - 1])
 }
 
-/// By refusal number, from 1 to 28: what documents 01 and 02 say of it, and with 27 what may have happened.
-const MEANINGS: [&str; 28] = [
+/// By refusal number, from 1 to 29: what documents 01 and 02 say of it, and with 27 what may have happened.
+const MEANINGS: [&str; 29] = [
     "the pattern file has under 6 bytes or doesn't begin with PAT",
     "the pattern file's version isn't 1",
     "the number of entries is zero, or the pattern file's length isn't 6 + 4 for each",
@@ -59,4 +59,5 @@ const MEANINGS: [&str; 28] = [
     "the steps are at an end and a branch is still open",
     "the pattern uses it and the model doesn't list it (was its meter removed?)",
     "it doesn't come after the record before it (edges rise by from, then axis, then to, each once)",
+    "the destination is shorter than the new file",
 ];

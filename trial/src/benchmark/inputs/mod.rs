@@ -1,6 +1,7 @@
 //! The inputs that are timed.
 
 pub mod models;
+pub mod older;
 pub mod patterns;
 mod script;
 pub mod tableaux;
@@ -23,5 +24,5 @@ pub fn readings() -> Vec<Case> {
 pub fn deepest() -> Vec<Case> {
     let readings = readings().into_iter().skip(1);
     let models = models::cases().into_iter().skip(2);
-    readings.chain(models).chain(tableaux::deep_cases()).collect()
+    readings.chain(models).chain(tableaux::deep_cases()).chain(older::cases()).collect()
 }

@@ -17,16 +17,7 @@ pub fn model(random: &mut Random, pattern: &Pattern, file: &mut Vec<u8>) {
             counts(random, pattern, file, [1, 1, 1]);
             spoil_header(random, file);
         }
-        4 => {
-            let edges = random.pick(&[4095, 4096, 4096, 4097]);
-            counts(random, pattern, file, [64, 128, edges]);
-            match random.below(4) {
-                0 => border_record(random, file, [64, 128, edges]),
-                1 => fallen_edge(random, file, edges),
-                _ => {}
-            }
-            misjudge_length(random, file);
-        }
+        4 => longest(random, pattern, file),
         5..9 => {
             let nodes = random.pick(&[0, 1, 63, 64, 65, 255]);
             let names = random.pick(&[0, 1, 127, 128, 129, 255]);
@@ -41,6 +32,19 @@ pub fn model(random: &mut Random, pattern: &Pattern, file: &mut Vec<u8>) {
             border_record(random, file, [nodes, names, edges]);
         }
     }
+}
+
+/// Writes a model file of 64 nodes, 128 names and 4,095 to 4,097 edges, now and then with a record at fault or of
+/// another length.
+pub fn longest(random: &mut Random, pattern: &Pattern, file: &mut Vec<u8>) {
+    let edges = random.pick(&[4095, 4096, 4096, 4097]);
+    counts(random, pattern, file, [64, 128, edges]);
+    match random.below(4) {
+        0 => border_record(random, file, [64, 128, edges]),
+        1 => fallen_edge(random, file, edges),
+        _ => {}
+    }
+    misjudge_length(random, file);
 }
 
 /// A file of so many nodes, names and edges, as long as they make it.

@@ -25,6 +25,7 @@ impl Walker<'_> {
                 step = self.clash(random).unwrap_or(step);
                 std::mem::swap(&mut step.p, &mut step.q);
             }
+            10 | 11 => step = self.other_axis().unwrap_or(step),
             _ => step = self.almost(random).unwrap_or(step),
         }
         self.tableau.steps.push(step);
@@ -44,6 +45,23 @@ impl Walker<'_> {
         let best =
             pairs.filter(|step| step.p != step.q).max_by_key(|step| in_common(line(step.p), line(step.q)));
         best.map(|step| if rules::uses_q(rule) { step } else { Step { q: 0, ..step } })
+    }
+
+    /// The first step of rule 6 or 15 that fits but for the axis, if the branch has lines for one.
+    fn other_axis(&self) -> Option<Step> {
+        let branch = self.walk.branch();
+        let fits_otherwise = |rule: u8, p: &Line, q: &Line| match (p, q) {
+            (Line::Has { name, .. }, Line::Edge { from, .. })
+            | (Line::Compare { left: (name, _), .. }, Line::Edge { from, .. }) => {
+                name == from && resembles(self.pattern, rule, Premise::P, p)
+            }
+            _ => false,
+        };
+        let pairs = (0..branch.len()).flat_map(|p| (0..branch.len()).map(move |q| (p, q)));
+        let steps = pairs.flat_map(|(p, q)| [6, 15].map(|rule| (rule, p, q)));
+        let steps = steps.filter(|&(rule, p, q)| fits_otherwise(rule, &branch[p], &branch[q]));
+        let mut steps = steps.map(|(rule, p, q)| Step { rule, p: p as u16, q: q as u16, argument: 0 });
+        steps.find(|step| self.apply(step).is_none())
     }
 
     /// The number of a random line of the branch that is wanted.

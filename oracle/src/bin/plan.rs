@@ -1,17 +1,15 @@
 //! `plan pattern.bin proposal.bin`: searches for a closed tableau, or for a small model that meets the
 //! pattern, and writes it as a proposal.
 
-mod target;
-
 use std::ffi::OsString;
-use std::fs;
-use std::io::{self, Write};
+use std::io;
 use std::path::{Path, PathBuf};
 use std::process::ExitCode;
 
+use oracle::explain;
 use oracle::pattern::{self, Pattern};
 use oracle::planner::{Effort, Plan, plan};
-use oracle::{explain, tool};
+use oracle::tool::{self, counted, target};
 
 const USAGE: &str = "usage: plan [--budget N] [--seed N] PATTERN PROPOSAL";
 const BUDGET: usize = 100_000;
@@ -53,7 +51,11 @@ fn run(arguments: &Arguments) -> Result<bool, String> {
     let Arguments { pattern: file, proposal, effort } = arguments;
     let unwritable = |error| format!("{}: can't be written: {error}", proposal.display());
     let pattern = read_pattern(file)?;
-    let target = target::find(proposal, file).map_err(unwritable)?;
+    let target = target::find(proposal).map_err(unwritable)?;
+    if target.is(file).map_err(unwritable)? {
+        return Err(unwritable(io::Error::other("it is the pattern")));
+    }
+    target.allows().map_err(unwritable)?;
     let Some(plan) = plan(&pattern, *effort) else {
         return Err(format!("{}: nothing found within a budget of {}", file.display(), effort.budget));
     };
@@ -63,19 +65,12 @@ fn run(arguments: &Arguments) -> Result<bool, String> {
         }
         Plan::Model(model) => (model.to_bytes(), format!("model, {}", counted(model.nodes.len(), "node"))),
     };
-    target::replace(&target, &bytes).map_err(unwritable)?;
-    // The proposal is there by now: that nobody can be told of it is no failure.
-    if let Err(message) = tool::print(format!("{written}\n")) {
-        let _ = writeln!(io::stderr(), "plan: {message}");
-    }
+    target.put(&bytes).map_err(unwritable)?;
+    tool::tell("plan", &written);
     Ok(true)
 }
 
 fn read_pattern(file: &Path) -> Result<Pattern, String> {
-    let bytes = fs::read(file).map_err(|error| format!("{}: can't be read: {error}", file.display()))?;
-    pattern::parse(&bytes).map_err(|refusal| format!("{}: {}", file.display(), explain::refused(refusal)))
-}
-
-fn counted(number: usize, what: &str) -> String {
-    format!("{number} {what}{}", if number == 1 { "" } else { "s" })
+    pattern::parse(&tool::read(file)?)
+        .map_err(|refusal| format!("{}: {}", file.display(), explain::refused(refusal)))
 }

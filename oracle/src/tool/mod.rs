@@ -1,0 +1,54 @@
+//! What the tools have in common: how they read, print and count, and how they end. `target` is the file that one
+//! writes.
+
+pub mod target;
+
+use std::fmt::Display;
+use std::fs;
+use std::io::{self, ErrorKind, Write};
+use std::path::Path;
+use std::process::ExitCode;
+
+/// The bytes of a file, or a message that names it.
+pub fn read(file: &Path) -> Result<Vec<u8>, String> {
+    fs::read(file).map_err(|error| format!("{}: can't be read: {error}", file.display()))
+}
+
+/// Prints a text at once. Gives whether standard output still has a reader: one who closed the pipe has seen
+/// enough, which is no error.
+pub fn print(text: impl Display) -> Result<bool, String> {
+    let mut stdout = io::stdout().lock();
+    match write!(stdout, "{text}").and_then(|()| stdout.flush()) {
+        Ok(()) => Ok(true),
+        Err(error) if error.kind() == ErrorKind::BrokenPipe => Ok(false),
+        Err(error) => Err(format!("standard output: {error}")),
+    }
+}
+
+/// Prints a line about a file that was written. It is there by then: that nobody can be told of it is no failure.
+pub fn tell(tool: &str, line: &str) {
+    if let Err(message) = print(format!("{line}\n")) {
+        let _ = writeln!(io::stderr(), "{tool}: {message}");
+    }
+}
+
+/// A number of things: `1 edge`, `4,096 edges`.
+pub fn counted(number: usize, what: &str) -> String {
+    let plural = if number == 1 { "" } else { "s" };
+    match number {
+        0..1000 => format!("{number} {what}{plural}"),
+        _ => format!("{},{:03} {what}{plural}", number / 1000, number % 1000),
+    }
+}
+
+/// The exit status of a tool: 0 if it passed; else 1, with the message if there is one.
+pub fn status(tool: &str, passed: Result<bool, String>) -> ExitCode {
+    match passed {
+        Ok(true) => ExitCode::SUCCESS,
+        Ok(false) => ExitCode::FAILURE,
+        Err(message) => {
+            eprintln!("{tool}: {message}");
+            ExitCode::FAILURE
+        }
+    }
+}

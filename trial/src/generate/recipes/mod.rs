@@ -1,0 +1,167 @@
+//! How an input of each kind is made: those of models in `model`, of older models in `older`, of tableaux in `tableau`,
+//! the others here.
+
+mod model;
+mod older;
+mod tableau;
+
+use crate::generate::age::age;
+use crate::generate::area::Area;
+use crate::generate::corpus::{Corpus, Planned};
+use crate::generate::input::{Input, Kind, Operation};
+use crate::generate::mutate::{Sort, mutate};
+use crate::generate::{limits, patterns};
+use oracle::random::Random;
+
+/// The share of each kind among the inputs.
+const SHARES: [(usize, Kind); 24] = [
+    (4, Kind::ValidPattern),
+    (7, Kind::MutatedPattern),
+    (5, Kind::PatternLimit),
+    (8, Kind::ValidModel),
+    (7, Kind::MutatedModel),
+    (3, Kind::DisorderedModel),
+    (4, Kind::ModelLimit),
+    (4, Kind::PlannedModel),
+    (6, Kind::MutatedPlannedModel),
+    (7, Kind::WalkedTableau),
+    (9, Kind::WrongStep),
+    (3, Kind::TableauLimit),
+    (5, Kind::PlannedTableau),
+    (7, Kind::MutatedPlannedTableau),
+    (10, Kind::OtherName),
+    (2, Kind::Exchanged),
+    (2, Kind::Unrelated),
+    (4, Kind::ModelOfClosed),
+    (3, Kind::TableauOfMet),
+    (3, Kind::OldModel),
+    (3, Kind::MutatedOldModel),
+    (3, Kind::OldModelLimit),
+    (1, Kind::ModelInOrder),
+    (5, Kind::JudgedOldModel),
+];
+
+/// Makes an input of a random kind.
+pub fn make(random: &mut Random, corpus: &Corpus, input: &mut Input) {
+    input.kind = kind(random);
+    input.never = None;
+    input.proposal.clear();
+    match input.kind {
+        Kind::ValidPattern => valid_pattern(random, input),
+        Kind::MutatedPattern => mutated_pattern(random, corpus, input),
+        Kind::PatternLimit => {
+            limits::pattern::pattern(random, &mut input.pattern);
+            any_operation(random, corpus, input);
+        }
+        Kind::ValidModel | Kind::MutatedModel => model::drawn(random, input),
+        Kind::DisorderedModel => model::disordered(random, corpus, input),
+        Kind::ModelLimit => model::limit(random, input),
+        Kind::PlannedModel | Kind::MutatedPlannedModel => model::planned(random, corpus, input),
+        Kind::WalkedTableau | Kind::WrongStep => tableau::random_walk(random, corpus, input),
+        Kind::TableauLimit => {
+            limits::tableau::tableau(random, &mut input.pattern, &mut input.proposal);
+            input.operation = Operation::Tableau;
+        }
+        Kind::PlannedTableau | Kind::MutatedPlannedTableau => tableau::planned(random, corpus, input),
+        Kind::OtherName => tableau::other_name(random, corpus, input),
+        Kind::Exchanged => exchanged(random, corpus, input),
+        Kind::Unrelated => unrelated(random, corpus, input),
+        Kind::ModelOfClosed => model::of_closed(random, corpus, input),
+        Kind::TableauOfMet => tableau::of_met(random, corpus, input),
+        Kind::OldModel | Kind::MutatedOldModel | Kind::OldModelLimit | Kind::ModelInOrder => {
+            older::to_be_ordered(random, corpus, input);
+        }
+        Kind::JudgedOldModel => older::judged(random, corpus, input),
+    }
+    input.area = match input.operation {
+        Operation::Ordering => {
+            input.pattern.clear();
+            Area::destination(random, &input.proposal)
+        }
+        operation => Area::random(random, operation),
+    };
+}
+
+fn kind(random: &mut Random) -> Kind {
+    let mut share = random.below(SHARES.iter().map(|(share, _)| share).sum());
+    for (of_kind, kind) in SHARES {
+        match share.checked_sub(of_kind) {
+            Some(rest) => share = rest,
+            None => return kind,
+        }
+    }
+    unreachable!("a share is below the sum of the shares")
+}
+
+fn valid_pattern(random: &mut Random, input: &mut Input) {
+    input.operation = Operation::Reading;
+    input.pattern = patterns::random(random).to_bytes();
+}
+
+/// A planned pattern with its own proposal, or a random one with any; the pattern mutated.
+fn mutated_pattern(random: &mut Random, corpus: &Corpus, input: &mut Input) {
+    match random.below(4) {
+        0 => model::planned(random, corpus, input),
+        1 => tableau::planned(random, corpus, input),
+        _ => {
+            input.pattern = patterns::random(random).to_bytes();
+            any_operation(random, corpus, input);
+        }
+    }
+    mutate(random, Sort::Pattern, &mut input.pattern);
+}
+
+/// Reading, or a judgement of a valid proposal, which a refusal of the pattern hides.
+fn any_operation(random: &mut Random, corpus: &Corpus, input: &mut Input) {
+    input.operation = random.pick(&Operation::OF_PATTERNS);
+    match input.operation {
+        Operation::Tableau => input.proposal.clone_from(&any(random, &corpus.closed).proposal_file),
+        Operation::Model => model::for_pattern(random, corpus, input),
+        Operation::Ordered => {
+            model::for_pattern(random, corpus, input);
+            age(random, &mut input.proposal);
+        }
+        Operation::Reading | Operation::Ordering => {}
+    }
+}
+
+fn any<'c>(random: &mut Random, planned: &'c [Planned]) -> &'c Planned {
+    &planned[random.below(planned.len())]
+}
+
+/// A tableau handed to an operation of models, or a model to the tableau judgement.
+fn exchanged(random: &mut Random, corpus: &Corpus, input: &mut Input) {
+    if random.once_in(2) {
+        tableau::planned(random, corpus, input);
+        input.operation = random.pick(&[Operation::Model, Operation::Ordering, Operation::Ordered]);
+    } else {
+        model::planned(random, corpus, input);
+        input.operation = Operation::Tableau;
+    }
+}
+
+/// Random bytes as a proposal, or as a pattern too, now and then with the right mark.
+fn unrelated(random: &mut Random, corpus: &Corpus, input: &mut Input) {
+    if random.once_in(2) {
+        input.pattern.clone_from(&any(random, &corpus.closed).pattern_file);
+    } else {
+        noise(random, b"PAT\x01\x00", &mut input.pattern);
+    }
+    input.operation = random.pick(&Operation::ALL);
+    match input.operation {
+        Operation::Reading => {}
+        Operation::Model | Operation::Ordering | Operation::Ordered => {
+            noise(random, b"DAT\x01\x00", &mut input.proposal);
+        }
+        Operation::Tableau => noise(random, b"TAB\x01\x00", &mut input.proposal),
+    }
+}
+
+fn noise(random: &mut Random, beginning: &[u8], file: &mut Vec<u8>) {
+    file.clear();
+    if random.once_in(2) {
+        file.extend(beginning);
+    }
+    let length = if random.once_in(16) { random.between(0, 2000) } else { random.between(0, 60) };
+    file.extend((0..length).map(|_| random.byte()));
+}

@@ -1,0 +1,81 @@
+//! Models to be judged.
+
+use super::any;
+use crate::generate::corpus::Corpus;
+use crate::generate::disorder::disorder;
+use crate::generate::input::{Input, Kind, Never, Operation};
+use crate::generate::mutate::{Sort, mutate};
+use crate::generate::rename::Renaming;
+use crate::generate::{limits, models, patterns};
+use oracle::pattern;
+use oracle::random::Random;
+
+/// A model for the pattern, if that is read, so that it mostly lists the pattern's names; else any.
+pub fn for_pattern(random: &mut Random, corpus: &Corpus, input: &mut Input) {
+    match pattern::parse(&input.pattern) {
+        Ok(pattern) => input.proposal = models::random(random, &pattern).to_bytes(),
+        Err(_) => input.proposal.clone_from(&any(random, &corpus.met).proposal_file),
+    }
+}
+
+/// A random model for a random pattern.
+pub fn drawn(random: &mut Random, input: &mut Input) {
+    input.operation = Operation::Model;
+    let pattern = patterns::random(random);
+    input.pattern = pattern.to_bytes();
+    input.proposal = models::random(random, &pattern).to_bytes();
+    rename(random, input);
+    if input.kind == Kind::MutatedModel {
+        mutate(random, Sort::Model, &mut input.proposal);
+    }
+}
+
+pub fn limit(random: &mut Random, input: &mut Input) {
+    input.operation = Operation::Model;
+    let pattern = patterns::random(random);
+    input.pattern = pattern.to_bytes();
+    limits::model::model(random, &pattern, &mut input.proposal);
+}
+
+/// A random model with edges out of order, as often as not for a pattern that has a closed tableau.
+pub fn disordered(random: &mut Random, corpus: &Corpus, input: &mut Input) {
+    let closed = random.once_in(2);
+    loop {
+        if closed {
+            of_closed(random, corpus, input);
+        } else {
+            drawn(random, input);
+        }
+        if disorder(random, &mut input.proposal) {
+            return;
+        }
+    }
+}
+
+pub fn planned(random: &mut Random, corpus: &Corpus, input: &mut Input) {
+    input.operation = Operation::Model;
+    let planned = any(random, &corpus.met);
+    input.pattern.clone_from(&planned.pattern_file);
+    input.proposal.clone_from(&planned.proposal_file);
+    rename(random, input);
+    if input.kind == Kind::MutatedPlannedModel {
+        mutate(random, Sort::Model, &mut input.proposal);
+    }
+}
+
+/// A random model for a pattern that has a closed tableau, so that none meets it.
+pub fn of_closed(random: &mut Random, corpus: &Corpus, input: &mut Input) {
+    input.operation = Operation::Model;
+    input.never = Some(Never::Met);
+    let planned = any(random, &corpus.closed);
+    input.pattern.clone_from(&planned.pattern_file);
+    input.proposal = models::random(random, &planned.pattern).to_bytes();
+    rename(random, input);
+}
+
+/// Renames in the pattern and in the model: names that are missing are then any of the 128.
+fn rename(random: &mut Random, input: &mut Input) {
+    let renaming = Renaming::random(random);
+    renaming.pattern(&mut input.pattern);
+    renaming.model(&mut input.proposal);
+}
