@@ -23,9 +23,9 @@ use Rattle.model_records.specs.declared.Order.{Order}
 use Rattle.model_records.specs.Checks as file
 use Rattle.model_records.specs.Valid as file-valid
 use Rattle.model.specs.Judging as model
-use Rattle.model_order.specs.NewFile.{orderedFile}
-use Rattle.model_order.specs.EdgeList.{edges-few}
-use Rattle.model_order.specs.Made.{length-made}
+use Rattle.ordered_file.specs.NewFile.{orderedFile}
+use Rattle.ordered_file.specs.EdgeList.{edges-few}
+use Rattle.ordered_file.specs.Made.{length-made}
 use Rattle.model_order.specs.Ordering.{fileWithin, orderingOf}
 use Rattle.lines.specs.declared.line.Line.{Line}
 use Rattle.rules.specs.declared.conclusion.Conclusion.{Conclusion}

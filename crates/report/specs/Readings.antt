@@ -32,7 +32,7 @@ use Rattle.model_records.specs.Checks as file
 use Rattle.model_records.specs.Checks.{nameCheck, edgeCheck, orderCheck, recordCheck, modelCheck}
 use Rattle.model_records.specs.Valid.{ValidModel, all-named}
 use Rattle.model.specs.Judging.{areaNeed, namesCheck, judgingCheck, judgingBy, judgingOf, NamesListed, checks-pass, judging-finds, judging-refuses}
-use Rattle.model_order.specs.NewFile.{edgesOf, frontOf, orderedFile}
+use Rattle.ordered_file.specs.NewFile.{edgesOf, frontOf, orderedFile}
 use Rattle.model_order.specs.Ordering.{fileWithin, orderingOf}
 use Rattle.lines.specs.Lines.{branchHas}
 use Rattle.rules.specs.Rules.{ruleAt}
@@ -41,7 +41,8 @@ use Rattle.tableau.specs.Run.{run}
 use Rattle.tableau.specs.Judging as tableau
 use Rattle.wire.specs.Fields.{text}
 use Rattle.wire.specs.Onto.{onto}
-use Rattle.report.specs.Line.{digitsWithin, lineFor}
+use Rattle.line.specs.Line.{digitsWithin}
+use Rattle.report.specs.Report.{lineFor}
 
 -- each of the claims
 abbrev pub All : List (Type 0) → Type 0

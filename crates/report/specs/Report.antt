@@ -1,4 +1,4 @@
--- The report of what judging finds: the word and the numbers of the line that the bench program prints.
+-- The report of what judging finds, the word and the numbers of the line that the bench program prints, and that line.
 -- Assumes nothing.
 use mathlib.Core.List.{List}
 use Prim.Native.Nat.{ℕ}
@@ -9,7 +9,8 @@ use Rattle.decision.specs.Judged.{Judged, met, unmet}
 use Rattle.model.specs.Judging as model
 use Rattle.tableau.specs.declared.finding.Closed.{Closed}
 use Rattle.tableau.specs.Judging as tableau
-use Rattle.report.specs.declared.Report.{Report}
+use Rattle.line.specs.declared.Report.{Report}
+use Rattle.line.specs.Line.{lineOf}
 
 -- "Lent areas are long enough": the bytes of the area that the program lends
 abbrev pub areaLent : ℕ
@@ -29,3 +30,7 @@ tableauReport (refused number place) = Report.Refused number place
 abbrev pub reportOf : List ℕ → List ℕ → Report
 reportOf bs xs =
     pick (beginsWith tableau.mark xs) (tableauReport (tableau.judgingOf bs xs areaLent)) (modelReport (model.judgingOf bs xs areaLent))
+
+-- the line that is printed of a pattern and a proposal
+abbrev pub lineFor : List ℕ → List ℕ → List ℕ
+lineFor bs xs = lineOf (reportOf bs xs)

@@ -1,12 +1,11 @@
 // The line that the bench program prints of a pattern and a proposal, document 01's 'Bench program'. It
 // is proved to be the line of what judging finds, byte for byte; that it is written, and what was
 // read, is not.
-mod line;
-
 use judge::AREA;
 use judge::judge_model;
 use judge::judge_tableau;
 pub use line::LINE_BYTES;
+use line::Report;
 use model::judge::ModelFinding;
 use tableau::finding::TableauFinding;
 ghost use mathlib.Core.Path.{_≡_};
@@ -14,16 +13,8 @@ ghost use lib.ListN.{length};
 ghost use Rattle.io.specs.Counts.{Counts};
 ghost use Rattle.model.specs.Judging as model-specs;
 ghost use Rattle.tableau.specs.Judging as tableau-specs;
-ghost use Rattle.report.specs.Report.{modelReport, tableauReport, reportOf};
-ghost use Rattle.report.specs.Line.{lineFor, written};
-
-// What the line that is printed says: its word and its numbers.
-enum Report {
-    Closed(u16, u16, u16, u16),
-    Met(u8, u8),
-    Unmet,
-    Refused(u8, u16),
-}
+ghost use Rattle.wire.specs.Onto.{onto};
+ghost use Rattle.report.specs.Report.{modelReport, tableauReport, reportOf, lineFor};
 
 // The report of what judging a model found.
 fn model_report(finding: ModelFinding) -> Report
@@ -61,7 +52,7 @@ fn report_for(pattern: &[u8], proposal: &[u8]) -> Report
 // Puts the line of a pattern and a proposal at the start of a buffer, and answers its length.
 pub fn line_for(pattern: &[u8], proposal: &[u8], buf: &mut [u8; LINE_BYTES]) -> usize
     ensures length { λ r. ⌜ r ≡ length (lineFor (now (pattern .entry)) (now (proposal .entry))) ⌝ }
-    ensures line { λ _. ⌜ now (buf .exit) ≡ written (lineFor (now (pattern .entry)) (now (proposal .entry))) (now (buf .entry)) ⌝ }
+    ensures line { λ _. ⌜ now (buf .exit) ≡ onto (lineFor (now (pattern .entry)) (now (proposal .entry))) (now (buf .entry)) ⌝ }
     ensures counts { λ r. ⌜ Counts r (now (buf .exit)) ⌝ }
 {
     line::fill(report_for(pattern, proposal), buf)

@@ -1,8 +1,8 @@
 -- `report::line_for` meets its contract: it fills the line of the report.
 -- Assumes nothing.
 use borrow.Author.Needs.{needs}
-use Rattle.report.specs.Line.{lineFor}
-use Rattle.report.specs.Filling.{filled-told}
+use Rattle.line.specs.Filling.{filled-told}
+use Rattle.report.specs.Report.{lineFor}
 use Rattle.report.proofs.line_for.Statement.{statement}
 use Rattle.report.proofs.line_for.Tie as tie
 

@@ -1,12 +1,12 @@
--- `report::line::put` meets its contract: the text is copied to the rest of the buffer.
+-- `line::put` meets its contract: the text is copied to the rest of the buffer.
 -- Assumes nothing.
 use borrow.Author.Needs.{needs}
 use native.Mathlib.Omega.{arith}
 use mathlib.Core.Path.{ap}
 use Prim.Native.Nat.{ℕ, _+_}
-use Rattle.report.specs.Filling.{put-copied}
-use Rattle.report.proofs.line.put.Statement.{statement}
-use Rattle.report.proofs.line.put.Tie as tie
+use Rattle.line.specs.Filling.{put-copied}
+use Rattle.line.proofs.put.Statement.{statement}
+use Rattle.line.proofs.put.Tie as tie
 
 sub-copy : tie.Need-sub-copy
 sub-copy c = search needs

@@ -1,12 +1,12 @@
--- `report::line::put_pair` meets its contract: each part stands behind the one before it.
+-- `line::put_pair` meets its contract: each part stands behind the one before it.
 -- Assumes nothing.
 use borrow.Author.Needs.{needs}
 use mathlib.Core.List.{[], _++_}
 use native.Mathlib.Omega.{arith}
-use Rattle.report.specs.Line.{number}
-use Rattle.report.specs.Filling.{filled-none, filled-more}
-use Rattle.report.proofs.line.put_pair.Statement.{statement}
-use Rattle.report.proofs.line.put_pair.Tie as tie
+use Rattle.line.specs.Line.{number}
+use Rattle.line.specs.Filling.{filled-none, filled-more}
+use Rattle.line.proofs.put_pair.Statement.{statement}
+use Rattle.line.proofs.put_pair.Tie as tie
 
 put-requires : tie.Need-put-requires
 put-requires c κs = search needs

@@ -1,12 +1,12 @@
--- `report::line::fill` meets its contract: the parts of each report's line stand one behind the other.
+-- `line::fill` meets its contract: the parts of each report's line stand one behind the other.
 -- Assumes nothing.
 use borrow.Author.Needs.{needs}
 use mathlib.Core.List.{[], _++_}
 use Rattle.wire.specs.Fields.{text}
-use Rattle.report.specs.Line.{number}
-use Rattle.report.specs.Filling.{filled-none, filled-more}
-use Rattle.report.proofs.line.fill.Statement.{statement}
-use Rattle.report.proofs.line.fill.Tie as tie
+use Rattle.line.specs.Line.{number}
+use Rattle.line.specs.Filling.{filled-none, filled-more}
+use Rattle.line.proofs.fill.Statement.{statement}
+use Rattle.line.proofs.fill.Tie as tie
 
 enum-known-report : tie.Need-enum-known-report
 enum-known-report c = search needs

@@ -1,11 +1,11 @@
--- `report::line::put_number` meets its contract: what `io` spells are the number's digits, five at most.
+-- `line::put_number` meets its contract: what `io` spells are the number's digits, five at most.
 -- Assumes nothing.
 use borrow.Author.Needs.{needs}
 use native.Mathlib.Omega.{arith}
-use Rattle.report.specs.Spelling.{five-digits}
-use Rattle.report.specs.Filling.{number-put}
-use Rattle.report.proofs.line.put_number.Statement.{statement}
-use Rattle.report.proofs.line.put_number.Tie as tie
+use Rattle.line.specs.Spelling.{five-digits}
+use Rattle.line.specs.Filling.{number-put}
+use Rattle.line.proofs.put_number.Statement.{statement}
+use Rattle.line.proofs.put_number.Tie as tie
 
 decimal-requires : tie.Need-decimal-requires
 decimal-requires c κs = search needs

@@ -7,10 +7,11 @@ use native.Mathlib.Omega.{arith}
 use lib.ListN.{length, take, drop, length-append, length-drop}
 use lib.Seq.{length-take-le, take-all, take-length, drop-length, take-append-seam, drop-append-add, drop-drop}
 use borrow.Rule.Slice.PartMut.{putMid, post-is}
+use Rattle.wire.specs.Onto.{onto}
 use Rattle.io.specs.Counts.{Counts}
 use Rattle.io.specs.Digits.{digits, Fewest}
-use Rattle.report.specs.Line.{decimal, number, written}
-use Rattle.report.specs.Spelling.{fewest-decimal, five-digits}
+use Rattle.line.specs.Line.{decimal, number}
+use Rattle.line.specs.Spelling.{fewest-decimal, five-digits}
 
 -- a buffer with a text from a place on, and what stood before and behind it
 abbrev pub putAt : List ℕ → ℕ → List ℕ → List ℕ
@@ -18,17 +19,19 @@ putAt buf at text = take at buf ++ text ++ drop (at + length text) buf
 
 -- a text stands at the start of a buffer, and behind it what stood there; the number is its length
 pub record LineFilled (front before after : List ℕ) (end : ℕ) : Type 0 where
-  pub stands : after ≡ written front before
+  pub stands : after ≡ onto front before
   pub ends : end ≡ length front
 
 -- nothing is written yet
 pub filled-none : (buf : List ℕ) → LineFilled [] buf buf 0
+unfolding onto
 filled-none buf = record { stands = refl; ends = refl }
 
 -- a further part behind what is written
-put-more : (s t buf : List ℕ) → putAt (written s buf) (length s) t ≡ written (s ++ t) buf
+put-more : (s t buf : List ℕ) → putAt (onto s buf) (length s) t ≡ onto (s ++ t) buf
+unfolding onto
 put-more s t buf =
-    ap (λ (x : List ℕ). x ++ t ++ drop (length s + length t) (written s buf)) (take-append-seam s (drop (length s) buf))
+    ap (λ (x : List ℕ). x ++ t ++ drop (length s + length t) (onto s buf)) (take-append-seam s (drop (length s) buf))
     ∙ ap (λ (x : List ℕ). s ++ t ++ x)
     (drop-append-add s (drop (length s) buf) (length t) ∙ drop-drop (length t) (length s) buf ∙ ap (λ (n : ℕ). drop n buf) (sym (length-append s t)))
 
@@ -36,16 +39,17 @@ length-put : (buf text : List ℕ) (at : ℕ) → at ≤ length buf → length (
 length-put buf text at h = length-append (take at buf) text ∙ ap (λ (n : ℕ). n + length text) (length-take-le at buf h)
 
 -- a text from a place on is written behind what stood before it
-put-is : (buf text : List ℕ) (at : ℕ) → at ≤ length buf → putAt buf at text ≡ written (take at buf ++ text) buf
+put-is : (buf text : List ℕ) (at : ℕ) → at ≤ length buf → putAt buf at text ≡ onto (take at buf ++ text) buf
+unfolding onto
 put-is buf text at h = ap (λ (n : ℕ). take at buf ++ text ++ drop n buf) (sym (length-put buf text at h))
 
 -- two texts, one put behind the other, are one text
 put-two : (buf s t : List ℕ) (at : ℕ) → at ≤ length buf → putAt (putAt buf at s) (at + length s) t ≡ putAt buf at (s ++ t)
 put-two buf s t at h =
     ap (λ (x : List ℕ). putAt x (at + length s) t) (put-is buf s at h)
-    ∙ ap (λ (n : ℕ). putAt (written (take at buf ++ s) buf) n t) (sym (length-put buf s at h))
+    ∙ ap (λ (n : ℕ). putAt (onto (take at buf ++ s) buf) n t) (sym (length-put buf s at h))
     ∙ put-more (take at buf ++ s) t buf
-    ∙ ap (λ (x : List ℕ). written x buf) (append-assoc (take at buf) s t)
+    ∙ ap (λ (x : List ℕ). onto x buf) (append-assoc (take at buf) s t)
     ∙ sym (put-is buf (s ++ t) at h)
 
 -- the rest of the buffer was lent, and a text copied to its start
@@ -70,7 +74,8 @@ filled-more front text before after after′ end end′ h e l =
 
 -- what a function that filled a line says of it; the length counts bytes of the buffer
 pub filled-told : (line before after : List ℕ) (end : ℕ) → LineFilled line before after end
-    → (end ≡ length line) × ((after ≡ written line before) × Counts end after)
+    → (end ≡ length line) × ((after ≡ onto line before) × Counts end after)
+unfolding onto
 filled-told line before after end h = (h .ends, (h .stands, counts))
   where
     counts : Counts end after

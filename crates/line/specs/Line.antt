@@ -4,11 +4,9 @@ use mathlib.Core.List.{List, [], _∷_, _++_}
 use Prim.Native.Nat.{ℕ, zero, suc, _+_, _/_, _%_}
 use Prim.Native.Char.{code}
 use lib.Dec.{ltb}
-use lib.ListN.{length, drop}
 use Rattle.wire.specs.Choice.{pick}
 use Rattle.wire.specs.Fields.{text}
-use Rattle.report.specs.declared.Report.{Report}
-use Rattle.report.specs.Report.{reportOf}
+use Rattle.line.specs.declared.Report.{Report}
 
 -- the digits of a number, at most so many, without leading zeros: the last one, and before it those of the tenth of a number over 9
 unfoldable pub digitsWithin : ℕ → ℕ → List ℕ
@@ -29,11 +27,3 @@ lineOf (Report.Closed steps clashes forks most) = text "closed" ++ number steps 
 lineOf (Report.Met lowest nodes) = text "met" ++ number lowest ++ number nodes ++ text "\n"
 lineOf Report.Unmet = text "unmet\n"
 lineOf (Report.Refused refusal place) = text "refused" ++ number refusal ++ number place ++ text "\n"
-
--- the line that is printed of a pattern and a proposal
-abbrev pub lineFor : List ℕ → List ℕ → List ℕ
-lineFor bs xs = lineOf (reportOf bs xs)
-
--- a buffer with a text at its start, and behind it what stood there
-abbrev pub written : List ℕ → List ℕ → List ℕ
-written front buf = front ++ drop (length front) buf

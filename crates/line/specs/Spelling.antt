@@ -8,7 +8,7 @@ use native.Mathlib.Nat.{le-trans, pow-suc, pow-le-pow-right}
 use lib.Dec.{ltb}
 use borrow.Author.Tests.{ltb-true, ltb-false, lt-ltb, le-ltb}
 use Rattle.io.specs.Digits.{glyph, digits, Fewest}
-use Rattle.report.specs.Line.{digitsWithin, decimal}
+use Rattle.line.specs.Line.{digitsWithin, decimal}
 
 digit : (n : ℕ) → glyph (n % 10) ≡ 48 + n % 10
 digit n = rw (lt-ltb (n % 10) 10 (omega arith))

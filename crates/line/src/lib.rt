@@ -1,11 +1,19 @@
-// Filling a buffer with the line of a report.
-use crate::Report;
+// The line that the bench program prints, document 01's 'Bench program': filling a buffer with the line
+// of a report, byte for byte.
 ghost use mathlib.Core.Path.{_≡_};
 ghost use mathlib.Core.List.{_++_};
 ghost use Prim.Native.Nat.{_+_, _≤_};
 ghost use lib.ListN.{length};
-ghost use Rattle.report.specs.Line.{number, lineOf};
-ghost use Rattle.report.specs.Filling.{putAt, LineFilled};
+ghost use Rattle.line.specs.Line.{number, lineOf};
+ghost use Rattle.line.specs.Filling.{putAt, LineFilled};
+
+// What the line that is printed says: its word and its numbers.
+pub enum Report {
+    Closed(u16, u16, u16, u16),
+    Met(u8, u8),
+    Unmet,
+    Refused(u8, u16),
+}
 
 // The bytes of the longest line: `closed`, four numbers of five digits with a space before each, and
 // the line feed.

@@ -1,0 +1,4 @@
+-- In the order of reading.
+pub mod NewFile
+pub mod EdgeList
+pub mod Made
