@@ -13,32 +13,16 @@ use Rattle.nodeset.specs.Stored.{setAt}
 use Rattle.pattern.specs.declared.types.Comparison.{Comparison}
 use Rattle.pattern.specs.declared.table.Kind.{Kind}
 use Rattle.pattern.specs.Checks.Tests.{and-is-true}
-use Rattle.pattern.specs.File.Types.{maxChannel}
 use Rattle.pattern.specs.File.Entries.{entryAt}
+use Rattle.pattern.specs.File.Reading.{countOf}
 use Rattle.pattern.specs.File.Valid.{Valid}
 use Rattle.pattern.specs.Logic.Semantics.{Compared}
 use Rattle.pattern.specs.Logic.Finite.{Finite, Named, NodeOf, node-same, modelOf}
-use Rattle.evaluation.specs.Tables.{IsSet, Tabled, Alike, successorsRow, propertyRow, nameRow, nodesRow, alikeRow}
+use Rattle.relations.specs.Tables.{IsSet, Inside, Uses, Tabled, AlikeOn, Before, successorsRow, propertyRow, nameRow, nodesRow, alikeRow}
+use Rattle.relations.specs.Values.{Matches, Pair}
 use Rattle.evaluation.specs.Standing.{Holding, Leading, Standing, Ends}
-use Rattle.evaluation.specs.Entries.{within-as, node-clause}
-use Rattle.evaluation.specs.Kinds.{comparisonKind}
-
--- the nodes that have a successor in the set
-abbrev pub Before : List ℕ → ℕ → NodeSet → ℕ → Type 0
-Before table a s u =
-    (has (setAt table nodesRow) u ≡ true) × ((v : ℕ) × ((has (setAt table (successorsRow a u)) v ≡ true) × (has s v ≡ true)))
-
--- a node's value compares so with another's, by whether the other is in the first's set of equal values
-abbrev pub Matches : Comparison → Bool → Type 0
-Matches Comparison.Same alike = alike ≡ true
-Matches Comparison.Differ alike = alike ≡ false
-
--- a member of the first set has one in the second that compares so with it
-abbrev pub Partner : Comparison → NodeSet → NodeSet → Type 0
-Partner c row t = (w : ℕ) × ((has t w ≡ true) × Matches c (has row w))
-
-abbrev pub Pair : List ℕ → ℕ → Comparison → NodeSet → NodeSet → Type 0
-Pair alike e c s t = (v : ℕ) × ((has s v ≡ true) × Partner c (setAt alike (alikeRow e v)) t)
+use Rattle.evaluation.specs.Entries.{within-as, uses-first, uses-its-name, node-clause}
+use Rattle.relations.specs.Kinds.{comparisonKind}
 
 -- the nodes from which some end of each path compare so
 abbrev pub Comparing : (F : Finite) → Named F → List ℕ → Comparison → ℕ → ℕ → ℕ → NodeOf F → Type 0
@@ -46,13 +30,9 @@ Comparing F ok bs c e α β u =
     (v : NodeOf F) × ((w : NodeOf F) × (Leading F ok bs α u v × Leading F ok bs β u w × Compared (modelOf F) c e v w))
 
 -- a number that is a node and compares so, in a model that the tables stand for
-abbrev pub ComparesIn : {bs table alike area : List ℕ} {known : ℕ} → Standing bs table alike area known → ℕ → Comparison → ℕ → Type 0
+abbrev pub ComparesIn : {bs table alike : List ℕ} {n : ℕ} → Standing bs table alike n → ℕ → Comparison → ℕ → Type 0
 ComparesIn {bs} w k c u =
     (l : u < w .model .size) × Comparing (w .model) (w .named) bs c (entryAt bs k .x) (entryAt bs k .y) (entryAt bs k .z) (u, l)
-
-abbrev pub ComparesAt : (bs table alike area : List ℕ) → ℕ → ℕ → Comparison → ℕ → Bool → Type 0
-ComparesAt bs table alike area known k c u b =
-    (w : Standing bs table alike area known) → (b ≡ true) ↔ ComparesIn w k c u
 
 -- ---- laws
 module _ (F : Finite) where
@@ -91,13 +71,13 @@ module _ (F : Finite) where
           go false e = rw (e, a u .1 (h .0, tt))
 
   -- a pair that compares so, by the table of values
-  module _ (alike : List ℕ) (values : Alike F alike) (e : ℕ) (e-in : e ≤ maxChannel) where
+  module _ (alike : List ℕ) (e : ℕ) (values : AlikeOn F alike e) where
     matches : (c : Comparison) (v w : NodeOf F) → Matches c (has (setAt alike (alikeRow e (v .0))) (w .0)) ↔ Compared (modelOf F) c e v w
     matches Comparison.Same v w =
-        let row = values e (v .0) e-in (v .1) (w .0) in
+        let row = values (v .0) (v .1) (w .0) in
         (λ h. row .0 h .1, λ h. row .1 (w .1, h))
     matches Comparison.Differ v w =
-        let row = values e (v .0) e-in (v .1) (w .0) in
+        let row = values (v .0) (v .1) (w .0) in
         (λ h same. false≢true (sym h ∙ row .1 (w .1, same)), λ never. differs row never (has (setAt alike (alikeRow e (v .0))) (w .0)) refl)
       where
         differs : (has (setAt alike (alikeRow e (v .0))) (w .0) ≡ true) ↔ ((l : w .0 < F .size) × (F .value e (v .0) ≡ F .value e (w .0)))
@@ -119,18 +99,18 @@ module _ (F : Finite) where
         back : (v : NodeOf F) × ((w : NodeOf F) × (P v × Q w × Compared (modelOf F) c e v w)) → Pair alike e c s t
         back (v, (w, (a, b, r))) = (v .0, (p (v .0) .1 (v .1, a), (w .0, (q (w .0) .1 (w .1, b), matches c v w .1 r))))
 
-module _ (F : Finite) (ok : Named F) {bs : List ℕ} {n : ℕ} (valid : Valid bs n) (k : ℕ) (l : k < n) (table : List ℕ) (tabled : Tabled F table) where
+module _ (F : Finite) (ok : Named F) {bs : List ℕ} {n : ℕ} (valid : Valid bs n) (k : ℕ) (l : k < n) (table : List ℕ) (tabled : Tabled F bs table) where
   pub nodes-property : entryAt bs k .kind ≡ Kind.Property → IsSet F (Holding F ok bs k) (setAt table (propertyRow (entryAt bs k .x)))
   nodes-property kind =
       set-as F (Holding F ok bs k) (λ u. F .label (entryAt bs k .x) (u .0) ≡ true) (setAt table (propertyRow (entryAt bs k .x)))
       (λ u. node-clause valid k l Kind.Property kind F ok refl u)
-      (tabled .properties (entryAt bs k .x) (within-as valid k l Kind.Property kind .0))
+      (tabled .properties (entryAt bs k .x) (uses-first valid k l Kind.Property kind))
 
   pub nodes-name : entryAt bs k .kind ≡ Kind.Name → IsSet F (Holding F ok bs k) (setAt table (nameRow (entryAt bs k .x)))
   nodes-name kind =
       set-as F (Holding F ok bs k) (λ u. F .named (entryAt bs k .x) ≡ u .0) (setAt table (nameRow (entryAt bs k .x)))
       (λ u. Iff·trans (node-clause valid k l Kind.Name kind F ok refl u) (λ e. ap (λ (w : NodeOf F). w .0) e, λ e. node-same F e))
-      (tabled .names (entryAt bs k .x) (within-as valid k l Kind.Name kind .0))
+      (tabled .names (entryAt bs k .x) (uses-its-name valid k l Kind.Name kind refl))
 
   pub nodes-not : (s : NodeSet) → entryAt bs k .kind ≡ Kind.Not → IsSet F (Holding F ok bs (entryAt bs k .x)) s
       → IsSet F (Holding F ok bs k) (minus (setAt table nodesRow) s)
@@ -148,7 +128,7 @@ module _ (F : Finite) (ok : Named F) {bs : List ℕ} {n : ℕ} (valid : Valid bs
 
   -- "After holds where some successor has φ."
   pub nodes-after : (s r : NodeSet) → entryAt bs k .kind ≡ Kind.After → IsSet F (Holding F ok bs (entryAt bs k .y)) s
-      → HasExactly (Before table (entryAt bs k .x) s) r → IsSet F (Holding F ok bs k) r
+      → HasExactly (Before table (F .size) (entryAt bs k .x) s) r → IsSet F (Holding F ok bs k) r
   nodes-after s r kind set before u = Iff·trans (before u) (there, back)
     where
       clause : (u : NodeOf F)
@@ -158,16 +138,13 @@ module _ (F : Finite) (ok : Named F) {bs : List ℕ} {n : ℕ} (valid : Valid bs
       row : (m : u < F .size) → IsSet F (λ v. F .edge (entryAt bs k .x) u (v .0) ≡ true) (setAt table (successorsRow (entryAt bs k .x) u))
       row m = tabled .successors (entryAt bs k .x) u (within-as valid k l Kind.After kind .0) m
 
-      there : Before table (entryAt bs k .x) s u → (m : u < F .size) × Holding F ok bs k (u, m)
-      there (node, (v, (edge, held))) =
-          let m = tabled .nodes u .0 node .0 in
-          let h = set v .0 held in
-          (m, clause (u, m) .1 ((v, h .0), (row m v .0 edge .1, h .1)))
+      there : Before table (F .size) (entryAt bs k .x) s u → (m : u < F .size) × Holding F ok bs k (u, m)
+      there (m, (v, (edge, held))) = let h = set v .0 held in (m, clause (u, m) .1 ((v, h .0), (row m v .0 edge .1, h .1)))
 
-      back : (m : u < F .size) × Holding F ok bs k (u, m) → Before table (entryAt bs k .x) s u
+      back : (m : u < F .size) × Holding F ok bs k (u, m) → Before table (F .size) (entryAt bs k .x) s u
       back (m, held) =
           let c = clause (u, m) .0 held in
-          (tabled .nodes u .1 (m, tt), (c .0 .0, (row m (c .0 .0) .1 (c .0 .1, c .1 .0), set (c .0 .0) .1 (c .0 .1, c .1 .1))))
+          (m, (c .0 .0, (row m (c .0 .0) .1 (c .0 .1, c .1 .0), set (c .0 .0) .1 (c .0 .1, c .1 .1))))
 
 module _ (F : Finite) (ok : Named F) {bs : List ℕ} {n : ℕ} (valid : Valid bs n) (k : ℕ) (l : k < n) where
   -- "Same (differ) holds at u if some end of α and some end of β from u have equal (unequal) values on the channel."
@@ -181,20 +158,27 @@ module _ (F : Finite) (ok : Named F) {bs : List ℕ} {n : ℕ} (valid : Valid bs
   nodes-compare s c kind set =
       set-as F (Holding F ok bs k) (Comparing F ok bs c (entryAt bs k .x) (entryAt bs k .y) (entryAt bs k .z)) s (λ u. compare-clause c kind u) set
 
--- a comparison at one node
-module _ (bs table alike area : List ℕ) (known k : ℕ) (c : Comparison) (u : ℕ) where
-  -- a number that is no node
-  pub compares-nowhere : has (setAt table nodesRow) u ≡ false → ComparesAt bs table alike area known k c u false
-  compares-nowhere none w = (λ h. absurd (false≢true h), λ h. absurd (false≢true (sym none ∙ w .tabled .nodes u .1 (h .0, tt))))
+  uses-channel : (c : Comparison) → entryAt bs k .kind ≡ comparisonKind c → Uses bs (comparisonKind c) (entryAt bs k .x)
+  uses-channel c kind = uses-first valid k l (comparisonKind c) kind
 
-  -- a node, by the ends of both paths from it
-  pub compares-here : (s t : NodeSet) (b : Bool) → entryAt bs k .x ≤ maxChannel → has (setAt table nodesRow) u ≡ true
-      → Ends bs table alike area known (entryAt bs k .y) u s → Ends bs table alike area known (entryAt bs k .z) u t
-      → (b ≡ true) ↔ Pair alike (entryAt bs k .x) c s t → ComparesAt bs table alike area known k c u b
-  compares-here s t b e-in node α β pair w =
+-- a comparison at one node, by the ends of both paths from it
+module _ {bs table alike : List ℕ} {n : ℕ} (valid : Valid bs (countOf bs)) (k : ℕ) (l : k < countOf bs) (c : Comparison)
+    (kind : entryAt bs k .kind ≡ comparisonKind c) (w : Standing bs table alike n) where
+  -- the rows of its channel stand for the model's values
+  pub channel-rows : AlikeOn (w .model) alike (entryAt bs k .x)
+  channel-rows = w .alike-is c (entryAt bs k .x) (uses-channel (w .model) (w .named) valid k l c kind)
+
+  pub pair-compares-in : (u : ℕ) → u < n → (s t : NodeSet) → Ends bs table alike n (entryAt bs k .y) u s
+      → Ends bs table alike n (entryAt bs k .z) u t → Pair alike (entryAt bs k .x) c s t ↔ ComparesIn w k c u
+  pair-compares-in u l′ s t α β =
       let F = w .model in
-      let l = w .tabled .nodes u .0 node .0 in
-      let r = Iff·trans pair (pair-compares F alike (w .alike-is) (entryAt bs k .x) e-in (Leading F (w .named) bs (entryAt bs k .y) (u, l)) (Leading F (w .named) bs (entryAt bs k .z) (u, l)) s t c (α w l) (β w l)) in (
-        λ h. (l, r .0 h),
-        λ h. r .1 (again F (Comparing F (w .named) bs c (entryAt bs k .x) (entryAt bs k .y) (entryAt bs k .z)) u (h .0) l (h .1)),
+      let m : u < F .size = rw (w .size-is) l′ in
+      let r = pair-compares F alike (entryAt bs k .x) channel-rows (Leading F (w .named) bs (entryAt bs k .y) (u, m)) (Leading F (w .named) bs (entryAt bs k .z) (u, m)) s t c (α w m) (β w m) in (
+        λ h. (m, r .0 h),
+        λ h. r .1 (again F (Comparing F (w .named) bs c (entryAt bs k .x) (entryAt bs k .y) (entryAt bs k .z)) u (h .0) m (h .1)),
       )
+
+-- a set of ends has nodes of the model only
+pub ends-inside : {bs table alike : List ℕ} {n : ℕ} (w : Standing bs table alike n) (path u : ℕ) → u < n → (s : NodeSet)
+    → Ends bs table alike n path u s → Inside (w .model) s
+ends-inside w path u l s ends v h = ends w (rw (w .size-is) l) v .0 h .0

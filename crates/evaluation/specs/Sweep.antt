@@ -24,11 +24,10 @@ use Rattle.pattern.specs.File.Entries.{entryAt}
 use Rattle.pattern.specs.File.Reading.{sortAt}
 use Rattle.pattern.specs.File.Valid.{Valid, EarlierPath}
 use Rattle.pattern.specs.Logic.Finite.{Finite, Named, NodeOf, node-same, modelOf, namingOf}
-use Rattle.pattern.specs.Meaning.Agreement.{published}
-use Rattle.evaluation.specs.Tables.{IsSet, Tabled, successorsRow, nameRow}
-use Rattle.evaluation.specs.Members.{Image}
+use Rattle.relations.specs.Tables.{IsSet, Inside, Tabled, successorsRow, nameRow}
+use Rattle.relations.specs.Members.{Image}
 use Rattle.evaluation.specs.Standing.{pendingBytes, Holding, Leading}
-use Rattle.evaluation.specs.Entries.{reference-fits, earlier-path, refers-as, within-as, path-clause}
+use Rattle.evaluation.specs.Entries.{reference-fits, refers-as, within-as, uses-its-name, path-clause, end-leads, earlier-path}
 
 -- a set added to the pending set of a reference
 abbrev pub addTo : List ℕ → ℕ → NodeSet → List ℕ
@@ -53,11 +52,8 @@ module _ (F : Finite) (ok : Named F) (bs : List ℕ) where
       (has (setAt pending endOfPath) (v .0) ≡ true) ⊎ ((i : ℕ) × ((i < j) × (sortAt bs i ≡ Sort.Path) × By (setAt pending i) i v))
 
   -- the sets have nodes of the model only
-  abbrev pub Inside : NodeSet → Type 0
-  Inside s = (u : ℕ) → has s u ≡ true → u < F .size
-
   abbrev pub AllInside : List ℕ → Type 0
-  AllInside pending = (i : ℕ) → Inside (setAt pending i)
+  AllInside pending = (i : ℕ) → Inside F (setAt pending i)
 
   -- one entry of the sweep: nothing is lost and nothing is gained
   pub record KeepsEnds (i : ℕ) (before after : List ℕ) : Type 0 where
@@ -125,7 +121,7 @@ module _ (F : Finite) (ok : Named F) (bs : List ℕ) where
             back ne same (inl a) = subst (λ (t : NodeSet). has t u ≡ true) (sym same) a
             back ne same (inr a) = absurd (ne (a .0))
 
-    add-inside : Inside s → AllInside pending → AllInside (addTo pending r s)
+    add-inside : Inside F s → AllInside pending → AllInside (addTo pending r s)
     add-inside new old j u h = which (added j u .0 h)
       where
         which : (has (setAt pending j) u ≡ true) ⊎ ((j ≡ r) × (has s u ≡ true)) → u < F .size
@@ -133,10 +129,6 @@ module _ (F : Finite) (ok : Named F) (bs : List ℕ) where
         which (inr a) = new u (a .1)
 
   module _ {n : ℕ} (valid : Valid bs n) where
-    -- "end leads to u"
-    end-leads : (u v : NodeOf F) → Leading F ok bs endOfPath u v ↔ (u ≡ v)
-    end-leads u v = published (modelOf F) (namingOf F ok) valid .ends u v
-
     -- adding a set to an earlier reference adds what is reached from it
     reached-added : (pending : List ℕ) (r : ℕ) (s : NodeSet) → tableBytes (r + 1) ≤ length pending → (i : ℕ) → EarlierPath bs i r → (v : NodeOf F)
         → Reached (addTo pending r s) i v ↔ (Reached pending i v ⊎ By s r v)
@@ -150,7 +142,7 @@ module _ (F : Finite) (ok : Named F) (bs : List ℕ) where
           where
             which : (has (setAt pending endOfPath) (v .0) ≡ true) ⊎ ((endOfPath ≡ r) × (has s (v .0) ≡ true)) → Reached pending i v ⊎ By s r v
             which (inl a) = inl (inl a)
-            which (inr a) = inr (v, (a .1, subst (λ (k : ℕ). Leading F ok bs k v v) (a .0) (end-leads v v .1 refl)))
+            which (inr a) = inr (v, (a .1, subst (λ (k : ℕ). Leading F ok bs k v v) (a .0) (end-leads valid F ok v v .1 refl)))
         there (inr (j, (l, p, (u, (h, lead))))) = which (new j (u .0) .0 h)
           where
             which : (has (setAt pending j) (u .0) ≡ true) ⊎ ((j ≡ r) × (has s (u .0) ≡ true)) → Reached pending i v ⊎ By s r v
@@ -159,7 +151,7 @@ module _ (F : Finite) (ok : Named F) (bs : List ℕ) where
 
         from-new : EarlierPath bs i r → By s r v → Reached (addTo pending r s) i v
         from-new (inl e) (u, (h, lead)) =
-            let same = end-leads u v .0 (subst (λ (k : ℕ). Leading F ok bs k u v) e lead) in
+            let same = end-leads valid F ok u v .0 (subst (λ (k : ℕ). Leading F ok bs k u v) e lead) in
             inl (new endOfPath (v .0) .1 (inr (sym e, subst (λ (w : NodeOf F). has s (w .0) ≡ true) same h)))
         from-new (inr (l, p)) (u, (h, lead)) = inr (r, (l, p, (u, (new r (u .0) .1 (inr (refl, h)), lead))))
 
@@ -204,7 +196,7 @@ module _ (F : Finite) (ok : Named F) (bs : List ℕ) where
 
     -- an entry from whose pending set the same is reached as from a set at one earlier reference
     keeps-on : (pending : List ℕ) (i r : ℕ) (s : NodeSet) → tableBytes (r + 1) ≤ length pending → EarlierPath bs i r → sortAt bs i ≡ Sort.Path
-        → (Inside (setAt pending i) → Inside s) → (Inside (setAt pending i) → (v : NodeOf F) → By (setAt pending i) i v ↔ By s r v)
+        → (Inside F (setAt pending i) → Inside F s) → (Inside F (setAt pending i) → (v : NodeOf F) → By (setAt pending i) i v ↔ By s r v)
         → KeepsEnds i pending (addTo pending r s)
     keeps-on pending i r s long earlier path in-s same =
         record {
@@ -233,7 +225,7 @@ module _ (F : Finite) (ok : Named F) (bs : List ℕ) where
       reference-long r h = le-trans (reference-fits valid r (earlier-path bs i n r (le-of-lt l) h)) long
 
       -- "step to wherever α leads from a successor on that axis"
-      pub keeps-step : (table : List ℕ) (s : NodeSet) → Tabled F table → entryAt bs i .kind ≡ Kind.Step
+      pub keeps-step : (table : List ℕ) (s : NodeSet) → Tabled F bs table → entryAt bs i .kind ≡ Kind.Step
           → HasExactly (Image (λ u. setAt table (successorsRow (entryAt bs i .x) u)) mine) s
           → KeepsEnds i pending (addTo pending (entryAt bs i .y) s)
       keeps-step table s tabled step image =
@@ -252,10 +244,10 @@ module _ (F : Finite) (ok : Named F) (bs : List ℕ) where
               → Leading F ok bs i u v ↔ ((w : NodeOf F) × ((F .edge (entryAt bs i .x) (u .0) (w .0) ≡ true) × Leading F ok bs (entryAt bs i .y) w v))
           clause u v = path-clause valid i l Kind.Step step F ok refl u v
 
-          in-s : Inside mine → Inside s
+          in-s : Inside F mine → Inside F s
           in-s h v m = let r = image v .0 m in row (r .0) (h (r .0) (r .1 .0)) v .0 (r .1 .1) .0
 
-          same : Inside mine → (v : NodeOf F) → By mine i v ↔ By s (entryAt bs i .y) v
+          same : Inside F mine → (v : NodeOf F) → By mine i v ↔ By s (entryAt bs i .y) v
           same h v = (there, back)
             where
               there : By mine i v → By s (entryAt bs i .y) v
@@ -270,7 +262,7 @@ module _ (F : Finite) (ok : Named F) (bs : List ℕ) where
                   (u, (r .1 .0, clause u v .1 (w, (row (r .0) (h (r .0) (r .1 .0)) (w .0) .0 (r .1 .1) .1, lead))))
 
       -- "jump to wherever α leads from the named node"
-      pub keeps-jump : (table : List ℕ) → Tabled F table → entryAt bs i .kind ≡ Kind.Jump → isEmpty mine ≡ false
+      pub keeps-jump : (table : List ℕ) → Tabled F bs table → entryAt bs i .kind ≡ Kind.Jump → isEmpty mine ≡ false
           → KeepsEnds i pending (addTo pending (entryAt bs i .y) (setAt table (nameRow (entryAt bs i .x))))
       keeps-jump table tabled jump some =
           keeps-on pending i (entryAt bs i .y) named (reference-long (entryAt bs i .y) earlier) earlier (ap sortOf jump) (λ h v m. row v .0 m .0) same
@@ -282,12 +274,12 @@ module _ (F : Finite) (ok : Named F) (bs : List ℕ) where
           earlier = refers-as valid i l Kind.Jump jump .1
 
           row : IsSet F (λ u. F .named (entryAt bs i .x) ≡ u .0) (setAt table (nameRow (entryAt bs i .x)))
-          row = tabled .names (entryAt bs i .x) (within-as valid i l Kind.Jump jump .0)
+          row = tabled .names (entryAt bs i .x) (uses-its-name valid i l Kind.Jump jump refl)
 
           clause : (u v : NodeOf F) → Leading F ok bs i u v ↔ Leading F ok bs (entryAt bs i .y) (namingOf F ok (entryAt bs i .x)) v
           clause u v = path-clause valid i l Kind.Jump jump F ok refl u v
 
-          same : Inside mine → (v : NodeOf F) → By mine i v ↔ By (setAt table (nameRow (entryAt bs i .x))) (entryAt bs i .y) v
+          same : Inside F mine → (v : NodeOf F) → By mine i v ↔ By (setAt table (nameRow (entryAt bs i .x))) (entryAt bs i .y) v
           same h v = (there, back)
             where
               there : By mine i v → By (setAt table (nameRow (entryAt bs i .x))) (entryAt bs i .y) v
@@ -318,7 +310,7 @@ module _ (F : Finite) (ok : Named F) (bs : List ℕ) where
           clause : (u v : NodeOf F) → Leading F ok bs i u v ↔ (Holding F ok bs (entryAt bs i .x) u × Leading F ok bs (entryAt bs i .y) u v)
           clause u v = path-clause valid i l Kind.Test test F ok refl u v
 
-          same : Inside mine → (v : NodeOf F) → By mine i v ↔ By (meet mine s) (entryAt bs i .y) v
+          same : Inside F mine → (v : NodeOf F) → By mine i v ↔ By (meet mine s) (entryAt bs i .y) v
           same h v = (there, back)
             where
               there : By mine i v → By (meet mine s) (entryAt bs i .y) v
@@ -430,7 +422,7 @@ module _ (F : Finite) (ok : Named F) (bs : List ℕ) where
 
           start : EarlierPath bs n r → (v : NodeOf F) → Leading F ok bs r u v → Reached (begun r (u .0)) (entriesSwept r) v
           start (inl e) v lead =
-              let same = end-leads u v .0 (subst (λ (k : ℕ). Leading F ok bs k u v) e lead) in
+              let same = end-leads valid F ok u v .0 (subst (λ (k : ℕ). Leading F ok bs k u v) e lead) in
               inl (new endOfPath (v .0) .1 (sym e, ap (λ (w : NodeOf F). w .0) (sym same)))
           start (inr (l, p)) v lead =
               let no-end : r ≡ endOfPath → ⊥ = λ e. omega (arith, l, valid .header .one-byte, valid .count-is) in
@@ -439,7 +431,7 @@ module _ (F : Finite) (ok : Named F) (bs : List ℕ) where
           back : (v : NodeOf F) → EarlierPath bs n r → Reached (begun r (u .0)) (entriesSwept r) v → Leading F ok bs r u v
           back v earlier (inl h) =
               let m = new endOfPath (v .0) .0 h in
-              subst (λ (k : ℕ). Leading F ok bs k u v) (m .0) (end-leads u v .1 (node-same F (sym (m .1))))
+              subst (λ (k : ℕ). Leading F ok bs k u v) (m .0) (end-leads valid F ok u v .1 (node-same F (sym (m .1))))
           back v earlier (inr (i, (l, p, (w, (h, lead))))) =
               let m = new i (w .0) .0 h in
               subst (λ (x : NodeOf F). Leading F ok bs r x v) (node-same F (m .1)) (subst (λ (k : ℕ). Leading F ok bs k w v) (m .0) lead)

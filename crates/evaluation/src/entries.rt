@@ -2,39 +2,41 @@
 // lead, and a path asks at its tests where a node entry holds. The entry number falls at each
 // reference.
 //
-// The area holds the set of each node entry below the bound `known`; below it a set is loaded, at or
-// above it computed. `evaluate_all` raises the bound entry by entry, so each is computed once.
-use crate::kinds::NodeKind;
-use crate::kinds::PathKind;
-use crate::kinds::node_kind;
-use crate::kinds::path_kind;
-use crate::relations::all_nodes;
-use crate::relations::before;
-use crate::relations::image;
-use crate::relations::some_pair;
-use crate::relations::with_name;
-use crate::relations::with_property;
+// What was learned is loaded, and the rest is computed: the set of a node entry is in the area, and the
+// ends of a path are in the rows, where the marks say so. Which entries are learned, and in which slot,
+// is a matter of speed alone.
 use nodeset::NodeSet;
 use pattern::entry::Entry;
-use pattern::entry::sort_at;
 use pattern::table::END;
 use pattern::types::Comparison;
-use wire::clear;
+use relations::kinds::NodeKind;
+use relations::kinds::PathKind;
+use relations::kinds::node_kind;
+use relations::kinds::path_kind;
+use relations::model::all_nodes;
+use relations::model::before;
+use relations::model::image;
+use relations::model::with_name;
+use relations::model::with_property;
+use relations::paths::compare_rows;
+use relations::values::some_pair;
+use slots::marks::MARKS_BYTES;
+use slots::marks::is_held;
+use slots::marks::is_known;
+use slots::marks::row_of_path;
 ghost use mathlib.Core.Path.{_≡_};
-ghost use Prim.Native.Nat.{_+_, _-_, _≤_, _<_};
-ghost use lib.ListN.{length, replicate};
-ghost use Rattle.nodeset.specs.Set.{width};
+ghost use Prim.Native.Nat.{_+_, _≤_, _<_};
+ghost use lib.ListN.{length};
 ghost use Rattle.nodeset.specs.Stored.{tableBytes};
 ghost use Rattle.pattern.specs.declared.table.Sort.{Sort};
 ghost use Rattle.pattern.specs.File.Entries.{entryAt};
 ghost use Rattle.pattern.specs.File.Reading.{countOf, sortAt};
-ghost use Rattle.pattern.specs.File.Valid.{EarlierPath};
-ghost use Rattle.evaluation.specs.Standing.{pendingBytes, Lent, Standing, Evaluates, RootNodes, Ends};
+ghost use Rattle.relations.specs.Kinds.{comparisonKind};
+ghost use Rattle.evaluation.specs.Standing.{pendingBytes, Lent, Evaluates, Ends};
+ghost use Rattle.slots.specs.Marks.{PathOf};
+ghost use Rattle.evaluation.specs.Learned.{Learned};
 ghost use Rattle.evaluation.specs.Sweep.{addTo, entriesSwept};
 ghost use Rattle.evaluation.specs.SweepEntry.{EntrySwept};
-ghost use Rattle.evaluation.specs.Kinds.{comparisonKind};
-ghost use Rattle.evaluation.specs.Nodes.{ComparesAt};
-ghost use Rattle.evaluation.specs.Known.{Knows, KnowsOneMore};
 
 // The bytes of the pending sets of a sweep: one for each reference, the end of path the last.
 const PENDING_BYTES: usize = NodeSet::BYTES * (ENDS + 1);
@@ -42,12 +44,22 @@ const PENDING_BYTES: usize = NodeSet::BYTES * (ENDS + 1);
 const ENDS: usize = END as usize;
 
 // The set of the nodes at which node entry k holds.
-fn evaluate(p: &[u8], table: &[u8], alike: &[u8], area: &[u8], known: u8, k: u8) -> NodeSet
-    requires { ⌜ Lent (now p) (now table) (now alike) (now area) ⌝ }
+pub fn evaluate(
+    p: &[u8],
+    table: &[u8],
+    alike: &[u8],
+    area: &[u8],
+    rows: &[u8],
+    marks: &[u8; MARKS_BYTES],
+    n: u8,
+    k: u8,
+) -> NodeSet
+    requires { ⌜ Lent (now p) (now table) (now alike) n ⌝ }
+    requires { ⌜ Learned (now p) (now table) (now alike) n (now area) (now rows) (now marks) ⌝ }
     requires { ⌜ (k < countOf (now p)) × (sortAt (now p) k ≡ Sort.Node) ⌝ }
-    ensures { λ r. ⌜ Evaluates (now (p .entry)) (now (table .entry)) (now (alike .entry)) (now (area .entry)) known k r ⌝ }
+    ensures { λ r. ⌜ Evaluates (now (p .entry)) (now (table .entry)) (now (alike .entry)) n k r ⌝ }
 {
-    if k < known {
+    if is_known(marks, k) {
         return NodeSet::load(area, k as usize);
     }
     let e = Entry::at(p, k);
@@ -56,13 +68,20 @@ fn evaluate(p: &[u8], table: &[u8], alike: &[u8], area: &[u8], known: u8, k: u8)
     match node {
         NodeKind::Property => with_property(table, e.x),
         NodeKind::Name => with_name(table, e.x),
-        NodeKind::Not => all_nodes(table).minus(evaluate(p, table, alike, area, known, e.x)),
-        NodeKind::Both => {
-            let s = evaluate(p, table, alike, area, known, e.x);
-            s.meet(evaluate(p, table, alike, area, known, e.y))
+        NodeKind::Not => {
+            let s = evaluate(p, table, alike, area, rows, marks, n, e.x);
+            all_nodes(table).minus(s)
         }
-        NodeKind::After => before(table, e.x, evaluate(p, table, alike, area, known, e.y)),
-        NodeKind::Compare(c) => compare(p, table, alike, area, known, k, c),
+        NodeKind::Both => {
+            let s = evaluate(p, table, alike, area, rows, marks, n, e.x);
+            let t = evaluate(p, table, alike, area, rows, marks, n, e.y);
+            s.meet(t)
+        }
+        NodeKind::After => {
+            let s = evaluate(p, table, alike, area, rows, marks, n, e.y);
+            before(table, n, e.x, s)
+        }
+        NodeKind::Compare(c) => compare(p, table, alike, area, rows, marks, n, k, c),
         NodeKind::NoNode => NodeSet::empty(),
     }
 }
@@ -73,82 +92,61 @@ fn compare(
     table: &[u8],
     alike: &[u8],
     area: &[u8],
-    known: u8,
+    rows: &[u8],
+    marks: &[u8; MARKS_BYTES],
+    n: u8,
     k: u8,
     c: Comparison,
 ) -> NodeSet
-    requires { ⌜ Lent (now p) (now table) (now alike) (now area) ⌝ }
+    requires { ⌜ Lent (now p) (now table) (now alike) n ⌝ }
+    requires { ⌜ Learned (now p) (now table) (now alike) n (now area) (now rows) (now marks) ⌝ }
     requires { ⌜ (k < countOf (now p)) × (entryAt (now p) k .kind ≡ comparisonKind c) ⌝ }
-    ensures { λ r. ⌜ Evaluates (now (p .entry)) (now (table .entry)) (now (alike .entry)) (now (area .entry)) known k r ⌝ }
+    ensures { λ r. ⌜ Evaluates (now (p .entry)) (now (table .entry)) (now (alike .entry)) n k r ⌝ }
 {
+    let e = Entry::at(p, k);
+    if is_held(marks, e.y) & is_held(marks, e.z) {
+        let first = row_of_path(marks, n, e.y);
+        let second = row_of_path(marks, n, e.z);
+        return compare_rows(alike, rows, n, e.x, c, first, second);
+    }
     let mut found = NodeSet::empty();
     let mut u = 0;
-    while u < NodeSet::WIDTH {
-        let wanted = compares_at(p, table, alike, area, known, k, c, u);
-        found = found.insert_if(u, wanted);
+    while u < n {
+        let s = ends(p, table, alike, area, rows, marks, n, e.y, u);
+        let t = ends(p, table, alike, area, rows, marks, n, e.z, u);
+        found = found.insert_if(u, some_pair(alike, e.x, c, s, t));
         u += 1;
     }
     found
 }
 
-// Whether u is a node from which some end of the first path and some end of the second compare so.
-fn compares_at(
-    p: &[u8],
-    table: &[u8],
-    alike: &[u8],
-    area: &[u8],
-    known: u8,
-    k: u8,
-    c: Comparison,
-    u: u8,
-) -> bool
-    requires { ⌜ Lent (now p) (now table) (now alike) (now area) ⌝ }
-    requires { ⌜ (k < countOf (now p)) × (entryAt (now p) k .kind ≡ comparisonKind c) ⌝ }
-    requires { ⌜ u < width ⌝ }
-    ensures { λ r. ⌜ ComparesAt (now (p .entry)) (now (table .entry)) (now (alike .entry)) (now (area .entry)) known k c u r ⌝ }
-{
-    if !all_nodes(table).has(u) {
-        return false;
-    }
-    let e = Entry::at(p, k);
-    let s = ends(p, table, alike, area, known, e.y, u);
-    let t = ends(p, table, alike, area, known, e.z, u);
-    some_pair(alike, e.x, c, s, t)
-}
-
-// How many entries a sweep from a path reference goes through: the entry itself and those below it,
-// none from the end of path.
-fn entries_swept(first: u8) -> u8
-    ensures { λ r. ⌜ r ≡ entriesSwept first ⌝ }
-{
-    if first == END {
-        return 0;
-    }
-    first + 1
-}
-
-// The nodes to which a path leads from a node, by one sweep down the entries from its first, with a
-// pending set for each reference. The set of the end of path is the answer.
+// The nodes to which a path leads from a node: by its rows, or by one sweep down the entries from its
+// first, with a pending set for each reference. The set of the end of path is the answer then.
 fn ends(
     p: &[u8],
     table: &[u8],
     alike: &[u8],
     area: &[u8],
-    known: u8,
-    first: u8,
-    from: u8,
+    rows: &[u8],
+    marks: &[u8; MARKS_BYTES],
+    n: u8,
+    path: u8,
+    u: u8,
 ) -> NodeSet
-    requires { ⌜ Lent (now p) (now table) (now alike) (now area) ⌝ }
-    requires { ⌜ EarlierPath (now p) (countOf (now p)) first ⌝ }
-    requires { ⌜ from < width ⌝ }
-    ensures { λ r. ⌜ Ends (now (p .entry)) (now (table .entry)) (now (alike .entry)) (now (area .entry)) known first from r ⌝ }
+    requires { ⌜ Lent (now p) (now table) (now alike) n ⌝ }
+    requires { ⌜ Learned (now p) (now table) (now alike) n (now area) (now rows) (now marks) ⌝ }
+    requires { ⌜ PathOf (now p) path × (u < n) ⌝ }
+    ensures { λ r. ⌜ Ends (now (p .entry)) (now (table .entry)) (now (alike .entry)) n path u r ⌝ }
 {
+    if is_held(marks, path) {
+        return NodeSet::load(rows, row_of_path(marks, n, path) + (u as usize));
+    }
     let mut pending = [0u8; PENDING_BYTES];
-    NodeSet::only(from).store(&mut pending, first as usize);
-    let mut j = entries_swept(first);
+    NodeSet::only(u).store(&mut pending, path as usize);
+    let mut j = entries_swept(path);
     while 0 < j {
         j -= 1;
-        sweep_entry(p, table, alike, area, known, j, &mut pending);
+        sweep_entry(p, table, alike, area, rows, marks, n, j, &mut pending);
     }
     NodeSet::load(&pending, ENDS)
 }
@@ -168,14 +166,17 @@ fn sweep_entry(
     table: &[u8],
     alike: &[u8],
     area: &[u8],
-    known: u8,
+    rows: &[u8],
+    marks: &[u8; MARKS_BYTES],
+    n: u8,
     i: u8,
     pending: &mut [u8],
 )
-    requires { ⌜ Lent (now p) (now table) (now alike) (now area) ⌝ }
+    requires { ⌜ Lent (now p) (now table) (now alike) n ⌝ }
+    requires { ⌜ Learned (now p) (now table) (now alike) n (now area) (now rows) (now marks) ⌝ }
     requires { ⌜ i < countOf (now p) ⌝ }
     requires { ⌜ pendingBytes ≤ length (now pending) ⌝ }
-    ensures { λ _. ⌜ EntrySwept (now (p .entry)) (now (table .entry)) (now (alike .entry)) (now (area .entry)) known i (now (pending .entry)) (now (pending .exit)) ⌝ }
+    ensures { λ _. ⌜ EntrySwept (now (p .entry)) (now (table .entry)) (now (alike .entry)) n i (now (pending .entry)) (now (pending .exit)) ⌝ }
 {
     let s = NodeSet::load(pending, i as usize);
     if s.is_empty() {
@@ -187,11 +188,10 @@ fn sweep_entry(
     match path {
         PathKind::Step => add(pending, e.y, image(table, e.x, s)),
         PathKind::Jump => add(pending, e.y, with_name(table, e.x)),
-        PathKind::Test => add(
-            pending,
-            e.y,
-            s.meet(evaluate(p, table, alike, area, known, e.x)),
-        ),
+        PathKind::Test => {
+            let t = evaluate(p, table, alike, area, rows, marks, n, e.x);
+            add(pending, e.y, s.meet(t));
+        }
         PathKind::Fork => {
             add(pending, e.x, s);
             add(pending, e.y, s);
@@ -200,42 +200,13 @@ fn sweep_entry(
     }
 }
 
-// Evaluates entry k, if it is a node, where the sets of all node entries before it are in the area.
-fn evaluate_entry(p: &[u8], table: &[u8], alike: &[u8], area: &mut [u8], k: u8)
-    requires { ⌜ Lent (now p) (now table) (now alike) (now area) ⌝ }
-    requires { ⌜ k < countOf (now p) ⌝ }
-    ensures { λ _. ⌜ KnowsOneMore (now (p .entry)) (now (table .entry)) (now (alike .entry)) k (now (area .entry)) (now (area .exit)) ⌝ }
+// How many entries a sweep from a path reference goes through: the entry itself and those below it,
+// none from the end of path.
+fn entries_swept(first: u8) -> u8
+    ensures { λ r. ⌜ r ≡ entriesSwept first ⌝ }
 {
-    if !sort_at(p, k).is_node() {
-        return;
+    if first == END {
+        return 0;
     }
-    evaluate(p, table, alike, area, k, k).store(area, k as usize);
-}
-
-// Evaluates every node entry in the order of the entries. The area is left with their sets.
-fn evaluate_all(p: &[u8], table: &[u8], alike: &[u8], area: &mut [u8])
-    requires { ⌜ Lent (now p) (now table) (now alike) (now area) ⌝ }
-    ensures { λ _. ⌜ Knows (now (p .entry)) (now (table .entry)) (now (alike .entry)) (now (area .exit)) (countOf (now (p .entry))) ⌝ }
-{
-    let n = p[5];
-    let mut k = 0;
-    while k < n {
-        evaluate_entry(p, table, alike, area, k);
-        k += 1;
-    }
-}
-
-// The set of the nodes at which the root of a pattern that was read holds, in the data model that the
-// tables stand for. The area is left zero.
-pub fn root_nodes(p: &[u8], table: &[u8], alike: &[u8], area: &mut [u8]) -> NodeSet
-    requires { ⌜ Lent (now p) (now table) (now alike) (now area) ⌝ }
-    requires { ⌜ Standing (now p) (now table) (now alike) (now area) 0 ⌝ }
-    ensures root { λ r. ⌜ RootNodes (now (p .entry)) (now (table .entry)) (now (alike .entry)) (now (area .entry)) r ⌝ }
-    ensures area { λ _. ⌜ now (area .exit) ≡ replicate (length (now (area .entry))) 0 ⌝ }
-{
-    evaluate_all(p, table, alike, area);
-    let root = p[5] - 1;
-    let s = NodeSet::load(area, root as usize);
-    clear(area);
-    s
+    first + 1
 }

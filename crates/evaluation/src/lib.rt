@@ -1,8 +1,7 @@
-// Where a pattern holds in a finite data model: node evaluation and path ends. The model comes as a
-// table of node sets, and its values as another (`rows`).
+// Where a pattern holds in a finite data model: node evaluation and path ends. The model comes in tables
+// of node sets (`relations`).
 mod entries;
-mod kinds;
-mod relations;
-pub mod rows;
+mod learning;
+mod root;
 
-pub use entries::root_nodes;
+pub use root::root_nodes;

@@ -26,7 +26,7 @@ use Rattle.pattern.specs.File.Reading as reading
 use Rattle.model_file.specs.Enums as file
 use Rattle.model_records.specs.Layout.{nodeCount, edgeCount}
 use Rattle.decision.specs.Root.{rootHolds, renamed, judged-renamed}
-use Rattle.model_records.specs.Contents.{isListed, nodeNamed, modelFrom}
+use Rattle.model_records.specs.Contents.{isListed, NamesListed, nodeNamed, modelFrom}
 use Rattle.model_records.specs.declared.Order.{Order}
 use Rattle.model_records.specs.Order.{edgeAt, EdgesRise}
 use Rattle.model_records.specs.Rising.{Ordered, no-repeat}
@@ -69,10 +69,6 @@ judgingOf = judgingBy Order.Rising
 abbrev pub areaAfter : List ℕ → Finding Judged → List ℕ → List ℕ
 areaAfter bs (found j) area = cleared (areaNeed bs) area
 areaAfter bs (refused number place) area = area
-
--- 02, Job 1: "A name used in the pattern must be listed in the model"
-abbrev pub NamesListed : List ℕ → List ℕ → Type 0
-NamesListed bs ds = (i : ℕ) → usesName bs i ≡ true → isListed ds i ≡ true
 
 -- What a finding says: nothing was to be refused, and j is so of the root under the published satisfaction relation, in the data model
 -- that the bytes denote.

@@ -26,9 +26,9 @@ ghost use Rattle.pattern.specs.File.Types.{maxName};
 ghost use Rattle.names.specs.Set.{SetOf};
 ghost use Rattle.pattern.specs.Checks.Range.{eachBelow};
 ghost use Rattle.model_records.specs.Layout.{nameCount, nameRecord, lengthOf};
-ghost use Rattle.model_records.specs.Checks.{countsWrong, headerCheck, repeatsName, nameCheck, modelCheck};
+ghost use Rattle.model_records.specs.Checks.{countsWrong, headerCheck, nameCheck, modelCheck};
 ghost use Rattle.model_file.specs.Enums.{checkOf};
-ghost use Rattle.model_records.specs.Contents.{isListed};
+ghost use Rattle.model_records.specs.Contents.{isListedBelow, isListed};
 ghost use Rattle.model_records.specs.Valid.{ValidModel};
 
 // Document 01's bounds of the three counts.
@@ -89,33 +89,20 @@ fn check_header(d: &[u8]) -> ModelCheck
     ModelCheck::Passed
 }
 
-// Whether an earlier record has the name of record j.
-fn repeats_name(d: &[u8], j: u8) -> bool
+// Refusal 13 of name record j, where these are the names of the records before it.
+fn check_name(d: &[u8], j: u8, seen: NameSet) -> ModelCheck
     requires { ⌜ nameRecord (now d) j + 2 ≤ length (now d) ⌝ }
-    ensures { λ r. ⌜ r ≡ repeatsName (now (d .entry)) j ⌝ }
-{
-    let mut i = 0;
-    while i < j {
-        if name_of(d, i) == name_of(d, j) {
-            return true;
-        }
-        i += 1;
-    }
-    false
-}
-
-// Refusal 13 of name record j.
-fn check_name(d: &[u8], j: u8) -> ModelCheck
-    requires { ⌜ nameRecord (now d) j + 2 ≤ length (now d) ⌝ }
+    requires { ⌜ SetOf (isListedBelow (now d) j) seen ⌝ }
     ensures { λ r. ⌜ checkOf r ≡ nameCheck (now (d .entry)) j ⌝ }
 {
-    if !is_name(name_of(d, j)) {
+    let name = name_of(d, j);
+    if !is_name(name) {
         return ModelCheck::Refused(ModelRefusal::Name(j));
     }
     if node_count(d) <= node_of_record(d, j) {
         return ModelCheck::Refused(ModelRefusal::Name(j));
     }
-    if repeats_name(d, j) {
+    if seen.has(name) {
         return ModelCheck::Refused(ModelRefusal::Name(j));
     }
     ModelCheck::Passed
@@ -127,11 +114,13 @@ fn check_names(d: &[u8]) -> ModelCheck
     ensures { λ r. ⌜ checkOf r ≡ eachBelow (nameCount (now (d .entry))) (nameCheck (now (d .entry))) ⌝ }
 {
     let m = name_count(d);
+    let mut seen = NameSet::empty();
     let mut j = 0;
     while j < m {
-        if let ModelCheck::Refused(refusal) = check_name(d, j) {
+        if let ModelCheck::Refused(refusal) = check_name(d, j, seen) {
             return ModelCheck::Refused(refusal);
         }
+        seen = seen.insert(name_of(d, j));
         j += 1;
     }
     ModelCheck::Passed

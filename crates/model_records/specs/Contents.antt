@@ -1,7 +1,7 @@
 -- The finite model that a model file stands for, and which names it lists.
 -- Assumes nothing.
 use mathlib.Core.Path.{_≡_}
-use mathlib.Core.Bool.{Bool, _&&_}
+use mathlib.Core.Bool.{Bool, true, _&&_}
 use mathlib.Core.List.{List}
 use Prim.Native.Nat.{ℕ, _^_, _/_, _%_}
 use lib.Dec.{leb, eqb}
@@ -10,6 +10,7 @@ use Rattle.nodeset.specs.Below.{lowestBelow}
 use Rattle.pattern.specs.Logic.Finite.{Finite}
 use Rattle.pattern.specs.File.Types.{maxChannel}
 use Rattle.pattern.specs.Checks.Range.{someBelow}
+use Rattle.pattern.specs.Meaning.Names.{usesName}
 use Rattle.model_records.specs.Layout.{nodeCount, nameCount, edgeCount, propertySet, valueOn, nameOf, nodeOfRecord, fromOf, axisOf, toOf}
 
 -- edge record i says that axis a leads from u to v
@@ -37,9 +38,17 @@ valueIn ds e u = pick (leb e maxChannel) (valueOn ds e u) 0
 abbrev pub recordLists : List ℕ → ℕ → ℕ → Bool
 recordLists ds i j = eqb (nameOf ds j) i
 
+-- one of the name records below j lists name i
+abbrev pub isListedBelow : List ℕ → ℕ → ℕ → Bool
+isListedBelow ds j i = someBelow j (recordLists ds i)
+
 -- 02, Job 1, "listed in the model": some name record lists name i
 unfoldable pub isListed : List ℕ → ℕ → Bool
-isListed ds i = someBelow (nameCount ds) (recordLists ds i)
+isListed ds i = isListedBelow ds (nameCount ds) i
+
+-- 02, Job 1: "A name used in the pattern must be listed in the model"
+abbrev pub NamesListed : List ℕ → List ℕ → Type 0
+NamesListed bs ds = (i : ℕ) → usesName bs i ≡ true → isListed ds i ≡ true
 
 -- the name record that lists name i; the count of the name records where none does
 abbrev pub recordOfName : List ℕ → ℕ → ℕ

@@ -94,7 +94,7 @@ header-accepted ds h =
     )
 
 module _ (ds : List ℕ) (j : ℕ) where
-  name-passes : nameCheck ds j ≡ passes → ValidName ds j
+  pub name-passes : nameCheck ds j ≡ passes → ValidName ds j
   unfolding nameCheck
   name-passes h =
       let node = not (ltb (nodeOfRecord ds j) (nodeCount ds)) in

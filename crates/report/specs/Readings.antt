@@ -25,13 +25,13 @@ use Rattle.decision.specs.Decision.{holdsTest, leadsTest}
 use Rattle.decision.specs.Judged.{unmet, judgedBy, judgedOf, judged-says}
 use Rattle.pattern.specs.Meaning.Names.{usesName}
 use Rattle.model_records.specs.Layout as layout
-use Rattle.model_records.specs.Contents.{leadsIn, isListed, nodeNamed, modelFrom}
+use Rattle.model_records.specs.Contents.{leadsIn, isListed, NamesListed, nodeNamed, modelFrom}
 use Rattle.model_records.specs.declared.Order.{Order}
 use Rattle.model_records.specs.Order.{EdgesRise, comesBefore}
 use Rattle.model_records.specs.Checks as file
 use Rattle.model_records.specs.Checks.{nameCheck, edgeCheck, orderCheck, recordCheck, modelCheck}
 use Rattle.model_records.specs.Valid.{ValidModel, all-named}
-use Rattle.model.specs.Judging.{areaNeed, namesCheck, judgingCheck, judgingBy, judgingOf, NamesListed, checks-pass, judging-finds, judging-refuses}
+use Rattle.model.specs.Judging.{areaNeed, namesCheck, judgingCheck, judgingBy, judgingOf, checks-pass, judging-finds, judging-refuses}
 use Rattle.ordered_file.specs.NewFile.{edgesOf, frontOf, orderedFile}
 use Rattle.model_order.specs.Ordering.{fileWithin, orderingOf}
 use Rattle.lines.specs.Lines.{branchHas}

@@ -10,7 +10,8 @@ use mathlib.Core.Bool.{Bool, true, false}
 use lib.Dec.{leb}
 use Rattle.pattern.specs.File.Types.{maxName}
 use Rattle.model_records.specs.Layout.{nodeCount, nameOf, nodeOfRecord}
-use Rattle.model_records.specs.Checks.{nameCheck}
+use Rattle.model_records.specs.Contents.{isListedBelow}
+use Rattle.model_records.specs.Checks.{repeatsName, nameCheck}
 use Rattle.model_file.proofs.check_name.Statement.{statement}
 use Rattle.model_file.proofs.check_name.Tie as tie
 
@@ -47,8 +48,18 @@ returns-2 c =
     let n = c .before .before .before in
     rw (name-asked (n .before) true (not-false _ (n .if1 .left)), le-ltb _ _ (node-out c))
 
-repeats-name-requires : tie.Need-repeats-name-requires
-repeats-name-requires c κs = search needs
+has-requires : tie.Need-has-requires
+has-requires c κs = search needs
+
+-- an earlier record has the name where the set of their names has it
+repeat-asked : (c : tie.After-has) (t : Bool) → c .has .result ≡ t
+    → let a = c .before .before .before .before .before .before .before .before .args in
+    repeatsName (a .d .now) (a .j) ≡ t
+repeat-asked c t h =
+    let s = c .before .before .before .before .before .before .before .before in
+    let name = c .before .before .before .before .before .before .name-of in
+    ap (isListedBelow (s .args .d .now) (s .args .j)) (sym (name .ensures))
+    ∙ sym (s .pre .1 (name .result)) ∙ sym (c .has .ensures) ∙ h
 
 returns-3 : tie.Need-returns-3
 unfolding nameCheck
@@ -58,7 +69,7 @@ returns-3 c =
     rw (
       name-asked (n .before) true (not-false _ (n .if1 .left)),
       lt-ltb _ _ (node-within e),
-      sym (c .before .repeats-name .ensures) ∙ c .if3 .taken,
+      repeat-asked (c .before) true (c .if3 .taken),
     )
 
 returns-4 : tie.Need-returns-4
@@ -69,7 +80,7 @@ returns-4 c =
     rw (
       name-asked (n .before) true (not-false _ (n .if1 .left)),
       lt-ltb _ _ (node-within e),
-      sym (c .before .repeats-name .ensures) ∙ c .if3 .left,
+      repeat-asked (c .before) false (c .if3 .left),
     )
 
 pub check-name-spec : {M : Type 1} → statement M
@@ -82,6 +93,6 @@ check-name-spec =
     node-count-requires
     node-of-record-requires
     returns-2
-    repeats-name-requires
+    has-requires
     returns-3
     returns-4)

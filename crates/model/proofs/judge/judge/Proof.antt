@@ -56,7 +56,7 @@ slice-aggregate-root-nodes : tie.Need-slice-aggregate-root-nodes
 slice-aggregate-root-nodes c = sym (front c)
 
 root-nodes-requires : tie.Need-root-nodes-requires
-root-nodes-requires c κs = let ok = allowed (c .before) in (valid-read _ _ (ok .0), (ok .2, rw (front c) (le-refl _)))
+root-nodes-requires c κs = let ok = allowed (c .before) in (valid-read _ _ (ok .0), (ok .2, (ok .4, rw (front c) (le-refl _))))
 
 judged-requires : tie.Need-judged-requires
 judged-requires c κs = search needs

@@ -1,0 +1,171 @@
+-- What the four functions of the cycle ask of each other and of the functions that they call: the measure of each, which is by the entry
+-- number, and the claims at a measure.
+-- Assumes nothing.
+use borrow.Fn.Kinds.{In}
+use borrow.Fn.PlainCycle.{Measures, is, falls, and}
+use Prim.Native.Nat.{ℕ, _+_, _*_, _<_}
+use Rattle.evaluation.proofs.entries.add.Reads as add-reads
+use Rattle.relations.proofs.model.all_nodes.Reads as all-nodes-reads
+use Rattle.pattern.proofs.entry.Entry.at.Reads as at-reads
+use Rattle.relations.proofs.model.before.Reads as before-reads
+use Rattle.relations.proofs.paths.compare_rows.Reads as compare-rows-reads
+use Rattle.nodeset.proofs.NodeSet.empty.Reads as empty-reads
+use Rattle.evaluation.proofs.entries.entries_swept.Reads as entries-swept-reads
+use Rattle.relations.proofs.model.image.Reads as image-reads
+use Rattle.nodeset.proofs.NodeSet.insert_if.Reads as insert-if-reads
+use Rattle.nodeset.proofs.NodeSet.is_empty.Reads as is-empty-reads
+use Rattle.slots.proofs.marks.is_held.Reads as is-held-reads
+use Rattle.slots.proofs.marks.is_known.Reads as is-known-reads
+use Rattle.nodeset.proofs.NodeSet.load.Reads as load-reads
+use Rattle.nodeset.proofs.NodeSet.meet.Reads as meet-reads
+use Rattle.nodeset.proofs.NodeSet.minus.Reads as minus-reads
+use Rattle.relations.proofs.kinds.node_kind.Reads as node-kind-reads
+use Rattle.nodeset.proofs.NodeSet.only.Reads as only-reads
+use Rattle.relations.proofs.kinds.path_kind.Reads as path-kind-reads
+use Rattle.slots.proofs.marks.row_of_path.Reads as row-of-path-reads
+use Rattle.relations.proofs.values.some_pair.Reads as some-pair-reads
+use Rattle.nodeset.proofs.NodeSet.store.Reads as store-reads
+use Rattle.relations.proofs.model.with_name.Reads as with-name-reads
+use Rattle.relations.proofs.model.with_property.Reads as with-property-reads
+use Rattle.evaluation.specs.Sweep.{entriesSwept}
+use Rattle.evaluation.proofs.entries.compare.Reads as compare
+use Rattle.evaluation.proofs.entries.compare.Kinds as compare-kinds
+use Rattle.evaluation.proofs.entries.+compare+ends+evaluate+sweep_entry.Lts-compare as compare-lts
+use Rattle.evaluation.proofs.entries.ends.Reads as ends
+use Rattle.evaluation.proofs.entries.ends.Kinds as ends-kinds
+use Rattle.evaluation.proofs.entries.+compare+ends+evaluate+sweep_entry.Lts-ends as ends-lts
+use Rattle.evaluation.proofs.entries.evaluate.Reads as evaluate
+use Rattle.evaluation.proofs.entries.evaluate.Kinds as evaluate-kinds
+use Rattle.evaluation.proofs.entries.+compare+ends+evaluate+sweep_entry.Lts-evaluate as evaluate-lts
+use Rattle.evaluation.proofs.entries.sweep_entry.Reads as sweep-entry
+use Rattle.evaluation.proofs.entries.sweep_entry.Kinds as sweep-entry-kinds
+use Rattle.evaluation.proofs.entries.+compare+ends+evaluate+sweep_entry.Lts-sweep_entry as sweep-entry-lts
+
+-- the measures: the entry number first, and among functions at one entry who calls whom
+abbrev pub μ-compare : Measures 6 compare-kinds.ps ℕ
+μ-compare κs a = 8 * a .1 .1 .1 .1 .1 .1 .1 .0 + 5
+
+abbrev pub μ-ends : Measures 6 ends-kinds.ps ℕ
+μ-ends κs a = 8 * entriesSwept (a .1 .1 .1 .1 .1 .1 .1 .0)
+
+abbrev pub μ-evaluate : Measures 6 evaluate-kinds.ps ℕ
+μ-evaluate κs a = 8 * a .1 .1 .1 .1 .1 .1 .1 .0 + 6
+
+abbrev pub μ-sweep-entry : Measures 7 sweep-entry-kinds.ps ℕ
+μ-sweep-entry κs a = 8 * a .1 .1 .1 .1 .1 .1 .1 .0 + 7
+
+-- what a function asks, where its measure is t and where it is below t
+abbrev pub compare-at : ℕ → In 6 compare-kinds.ps
+compare-at t = and 6 compare-kinds.ps (is 6 compare-kinds.ps μ-compare t) compare.Pre
+
+abbrev pub compare-below : ℕ → In 6 compare-kinds.ps
+compare-below t = and 6 compare-kinds.ps (falls 6 compare-kinds.ps _<_ μ-compare t) compare.Pre
+
+abbrev pub ends-at : ℕ → In 6 ends-kinds.ps
+ends-at t = and 6 ends-kinds.ps (is 6 ends-kinds.ps μ-ends t) ends.Pre
+
+abbrev pub ends-below : ℕ → In 6 ends-kinds.ps
+ends-below t = and 6 ends-kinds.ps (falls 6 ends-kinds.ps _<_ μ-ends t) ends.Pre
+
+abbrev pub evaluate-at : ℕ → In 6 evaluate-kinds.ps
+evaluate-at t = and 6 evaluate-kinds.ps (is 6 evaluate-kinds.ps μ-evaluate t) evaluate.Pre
+
+abbrev pub evaluate-below : ℕ → In 6 evaluate-kinds.ps
+evaluate-below t = and 6 evaluate-kinds.ps (falls 6 evaluate-kinds.ps _<_ μ-evaluate t) evaluate.Pre
+
+abbrev pub sweep-entry-at : ℕ → In 7 sweep-entry-kinds.ps
+sweep-entry-at t = and 7 sweep-entry-kinds.ps (is 7 sweep-entry-kinds.ps μ-sweep-entry t) sweep-entry.Pre
+
+abbrev pub sweep-entry-below : ℕ → In 7 sweep-entry-kinds.ps
+sweep-entry-below t = and 7 sweep-entry-kinds.ps (falls 7 sweep-entry-kinds.ps _<_ μ-sweep-entry t) sweep-entry.Pre
+
+-- what each function asks and learns of those that it calls
+abbrev pub compare-claims : ℕ → compare-lts.Claims
+compare-claims t = (
+  at-reads.Asked,
+  at-reads.Learnt,
+  is-held-reads.Asked,
+  is-held-reads.Learnt,
+  row-of-path-reads.Asked,
+  row-of-path-reads.Learnt,
+  compare-rows-reads.Asked,
+  compare-rows-reads.Learnt,
+  empty-reads.Asked,
+  empty-reads.Learnt,
+  ends-below t,
+  ends.Post,
+  some-pair-reads.Asked,
+  some-pair-reads.Learnt,
+  insert-if-reads.Asked,
+  insert-if-reads.Learnt,
+)
+
+abbrev pub ends-claims : ℕ → ends-lts.Claims
+ends-claims t = (
+  is-held-reads.Asked,
+  is-held-reads.Learnt,
+  row-of-path-reads.Asked,
+  row-of-path-reads.Learnt,
+  load-reads.Asked,
+  load-reads.Learnt,
+  only-reads.Asked,
+  only-reads.Learnt,
+  store-reads.Asked,
+  store-reads.Learnt,
+  entries-swept-reads.Asked,
+  entries-swept-reads.Learnt,
+  sweep-entry-below t,
+  sweep-entry.Post,
+)
+
+abbrev pub evaluate-claims : ℕ → evaluate-lts.Claims
+evaluate-claims t = (
+  is-known-reads.Asked,
+  is-known-reads.Learnt,
+  load-reads.Asked,
+  load-reads.Learnt,
+  at-reads.Asked,
+  at-reads.Learnt,
+  node-kind-reads.Asked,
+  node-kind-reads.Learnt,
+  with-property-reads.Asked,
+  with-property-reads.Learnt,
+  with-name-reads.Asked,
+  with-name-reads.Learnt,
+  evaluate-below t,
+  evaluate.Post,
+  all-nodes-reads.Asked,
+  all-nodes-reads.Learnt,
+  minus-reads.Asked,
+  minus-reads.Learnt,
+  meet-reads.Asked,
+  meet-reads.Learnt,
+  before-reads.Asked,
+  before-reads.Learnt,
+  compare-below t,
+  compare.Post,
+  empty-reads.Asked,
+  empty-reads.Learnt,
+)
+
+abbrev pub sweep-entry-claims : ℕ → sweep-entry-lts.Claims
+sweep-entry-claims t = (
+  load-reads.Asked,
+  load-reads.Learnt,
+  is-empty-reads.Asked,
+  is-empty-reads.Learnt,
+  at-reads.Asked,
+  at-reads.Learnt,
+  path-kind-reads.Asked,
+  path-kind-reads.Learnt,
+  image-reads.Asked,
+  image-reads.Learnt,
+  add-reads.Asked,
+  add-reads.Learnt,
+  with-name-reads.Asked,
+  with-name-reads.Learnt,
+  evaluate-below t,
+  evaluate.Post,
+  meet-reads.Asked,
+  meet-reads.Learnt,
+)

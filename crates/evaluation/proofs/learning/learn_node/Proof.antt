@@ -1,0 +1,29 @@
+-- `evaluation::learning::learn_node` meets its contract, by the law `learned-node`.
+-- Assumes nothing.
+use borrow.Author.Needs.{needs}
+use Rattle.evaluation.specs.Evaluated.{set-long}
+use Rattle.evaluation.specs.Learned.{learned-node}
+use Rattle.evaluation.proofs.learning.learn_node.Statement.{statement}
+use Rattle.evaluation.proofs.learning.learn_node.Tie as tie
+
+evaluate-requires : tie.Need-evaluate-requires
+evaluate-requires c κs = search needs
+
+store-requires : tie.Need-store-requires
+store-requires c κs = let s = c .before .before .before .before .before .before .before .before .before in set-long (s .pre .0) (s .args .area .now) (s .pre .1 .0 .area-long) (s .args .k) (s .pre .1 .1 .0)
+
+element-write-marks : tie.Need-element-write-marks
+element-write-marks c = search needs
+
+same-length : tie.Need-same-length
+same-length c = search needs
+
+returns : tie.Need-returns
+returns c = let st = c .before .before in
+    let v = st .before .before in
+    let s = v .before .before .before .before .before .before .before .before in
+    rw (st .store .ensures) (learned-node (s .pre .0) (s .pre .1 .0) (s .args .k) (v .evaluate .result) (s .pre .1 .1 .0) (s .pre .1 .1 .1) (v .evaluate .ensures))
+
+pub learn-node-spec : {M : Type 1} → statement M
+learn-node-spec =
+    tie.close (tie.spec evaluate-requires store-requires element-write-marks same-length returns)

@@ -1,0 +1,174 @@
+// Learning an entry: of a node entry its set, of a path its rows. The rows of a path take a slot, which
+// loses the path that it had.
+use crate::entries::evaluate;
+use nodeset::NodeSet;
+use pattern::entry::Entry;
+use pattern::entry::sort_at;
+use pattern::table::END;
+use relations::kinds::PathKind;
+use relations::kinds::path_kind;
+use relations::paths::fill_rows;
+use slots::marks::MARKS_BYTES;
+use slots::marks::TAGS;
+use slots::marks::first_row;
+use slots::marks::is_held;
+use slots::marks::row_of_path;
+use slots::uses::USES_BYTES;
+use slots::uses::free_slot;
+ghost use mathlib.Core.Path.{_≡_};
+ghost use Prim.Native.Nat.{_<_};
+ghost use Rattle.pattern.specs.declared.table.Sort.{Sort};
+ghost use Rattle.pattern.specs.File.Reading.{countOf, sortAt};
+ghost use Rattle.relations.specs.Paths.{RowsFit};
+ghost use Rattle.evaluation.specs.Standing.{Lent};
+ghost use Rattle.slots.specs.Marks.{firstRow, IsFree, MayHold, SlotsFit};
+ghost use Rattle.evaluation.specs.Learned.{Learned};
+ghost use Rattle.evaluation.specs.Rows.{otherPath, TestNode, TestSet, SlotFilled};
+
+// Where the test of a path holds, if it has one.
+fn test_nodes(
+    p: &[u8],
+    table: &[u8],
+    alike: &[u8],
+    area: &[u8],
+    rows: &[u8],
+    marks: &[u8; MARKS_BYTES],
+    n: u8,
+    kind: PathKind,
+    x: u8,
+) -> NodeSet
+    requires { ⌜ Lent (now p) (now table) (now alike) n ⌝ }
+    requires { ⌜ Learned (now p) (now table) (now alike) n (now area) (now rows) (now marks) ⌝ }
+    requires { ⌜ TestNode (now p) kind x ⌝ }
+    ensures { λ r. ⌜ TestSet (now (p .entry)) (now (table .entry)) (now (alike .entry)) n kind x r ⌝ }
+{
+    match kind {
+        PathKind::Test => evaluate(p, table, alike, area, rows, marks, n, x),
+        PathKind::Step => NodeSet::empty(),
+        PathKind::Jump => NodeSet::empty(),
+        PathKind::Fork => NodeSet::empty(),
+        PathKind::NoPath => NodeSet::empty(),
+    }
+}
+
+// A fork goes on by the paths x and y, the other kinds by y alone: x, or y again.
+fn other_path(kind: PathKind, x: u8, y: u8) -> u8
+    ensures { λ r. ⌜ r ≡ otherPath kind x y ⌝ }
+{
+    match kind {
+        PathKind::Fork => x,
+        PathKind::Step => y,
+        PathKind::Jump => y,
+        PathKind::Test => y,
+        PathKind::NoPath => y,
+    }
+}
+
+// Fills a slot that no path has with the rows of path entry k, if the paths that it goes on by have
+// theirs.
+fn fill(
+    p: &[u8],
+    table: &[u8],
+    alike: &[u8],
+    area: &[u8],
+    rows: &mut [u8],
+    marks: &[u8; MARKS_BYTES],
+    n: u8,
+    k: u8,
+    slot: u8,
+) -> bool
+    requires { ⌜ Lent (now p) (now table) (now alike) n ⌝ }
+    requires { ⌜ Learned (now p) (now table) (now alike) n (now area) (now rows) (now marks) ⌝ }
+    requires { ⌜ (k < countOf (now p)) × (sortAt (now p) k ≡ Sort.Path) ⌝ }
+    requires { ⌜ RowsFit (now rows) n (firstRow n slot) × IsFree (now p) (now marks) slot ⌝ }
+    ensures { λ r. ⌜ SlotFilled (now (p .entry)) (now (table .entry)) (now (alike .entry)) n k slot (now (rows .entry)) (now (rows .exit)) r ⌝ }
+{
+    let e = Entry::at(p, k);
+    let kind = e.kind;
+    let path = path_kind(kind);
+    let other = other_path(path, e.x, e.y);
+    if !(is_held(marks, other) & is_held(marks, e.y)) {
+        return false;
+    }
+    let held = test_nodes(p, table, alike, area, rows, marks, n, path, e.x);
+    let first = row_of_path(marks, n, other);
+    let second = row_of_path(marks, n, e.y);
+    let at = first_row(n, slot);
+    fill_rows(table, rows, n, path, e.x, held, first, second, at);
+    true
+}
+
+// Path entry k gets its rows in a slot; no path has the slot meanwhile.
+fn learn_path(
+    p: &[u8],
+    table: &[u8],
+    alike: &[u8],
+    area: &[u8],
+    rows: &mut [u8],
+    marks: &mut [u8; MARKS_BYTES],
+    n: u8,
+    k: u8,
+    slot: u8,
+)
+    requires { ⌜ Lent (now p) (now table) (now alike) n ⌝ }
+    requires { ⌜ Learned (now p) (now table) (now alike) n (now area) (now rows) (now marks) ⌝ }
+    requires { ⌜ (k < countOf (now p)) × (sortAt (now p) k ≡ Sort.Path) ⌝ }
+    requires { ⌜ RowsFit (now rows) n (firstRow n slot) × MayHold slot ⌝ }
+    ensures { λ _. ⌜ Learned (now (p .entry)) (now (table .entry)) (now (alike .entry)) n (now (area .entry)) (now (rows .exit)) (now (marks .exit)) ⌝ }
+{
+    marks[TAGS + (slot as usize)] = 0;
+    if fill(p, table, alike, area, rows, marks, n, k, slot) {
+        marks[k as usize] = slot;
+        marks[TAGS + (slot as usize)] = END - k;
+    }
+}
+
+// Node entry k gets its set in the area.
+fn learn_node(
+    p: &[u8],
+    table: &[u8],
+    alike: &[u8],
+    area: &mut [u8],
+    rows: &[u8],
+    marks: &mut [u8; MARKS_BYTES],
+    n: u8,
+    k: u8,
+)
+    requires { ⌜ Lent (now p) (now table) (now alike) n ⌝ }
+    requires { ⌜ Learned (now p) (now table) (now alike) n (now area) (now rows) (now marks) ⌝ }
+    requires { ⌜ (k < countOf (now p)) × (sortAt (now p) k ≡ Sort.Node) ⌝ }
+    ensures { λ _. ⌜ Learned (now (p .entry)) (now (table .entry)) (now (alike .entry)) n (now (area .exit)) (now (rows .entry)) (now (marks .exit)) ⌝ }
+{
+    evaluate(p, table, alike, area, rows, marks, n, k).store(area, k as usize);
+    marks[k as usize] = 1;
+}
+
+// Learns entry k, if the root reaches it.
+pub fn learn(
+    p: &[u8],
+    table: &[u8],
+    alike: &[u8],
+    area: &mut [u8],
+    rows: &mut [u8],
+    marks: &mut [u8; MARKS_BYTES],
+    n: u8,
+    slots: u8,
+    last: &[u8; USES_BYTES],
+    k: u8,
+)
+    requires { ⌜ Lent (now p) (now table) (now alike) n ⌝ }
+    requires { ⌜ Learned (now p) (now table) (now alike) n (now area) (now rows) (now marks) ⌝ }
+    requires { ⌜ SlotsFit (now rows) n slots ⌝ }
+    requires { ⌜ k < countOf (now p) ⌝ }
+    ensures { λ _. ⌜ Learned (now (p .entry)) (now (table .entry)) (now (alike .entry)) n (now (area .exit)) (now (rows .exit)) (now (marks .exit)) ⌝ }
+{
+    if last[k as usize] == 0 {
+        return;
+    }
+    if sort_at(p, k).is_node() {
+        learn_node(p, table, alike, area, rows, marks, n, k);
+        return;
+    }
+    let slot = free_slot(marks, last, slots, k);
+    learn_path(p, table, alike, area, rows, marks, n, k, slot);
+}

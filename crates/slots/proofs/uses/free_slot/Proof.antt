@@ -1,0 +1,70 @@
+-- `slots::uses::free_slot` meets its contract.
+-- Assumes nothing.
+use borrow.Author.Needs.{needs}
+use mathlib.Core.Path.{_≡_}
+use Prim.Native.Nat.{ℕ, _≤_, _<_, _-_}
+use native.Mathlib.Nat.{mod-lt}
+use native.Mathlib.Omega.{arith}
+use Rattle.slots.proofs.uses.free_slot.Statement.{statement}
+use Rattle.slots.proofs.uses.free_slot.Tie as tie
+
+abbrev Inv-loop : tie.InvT-loop
+Inv-loop marks last slots k slot₀ slot = (0 < slot) × (slot ≤ slots)
+
+abbrev μ-loop : tie.MeasureT-loop
+μ-loop marks last slots k slot₀ slot = slots - slot
+
+loop-holds : tie.Need-loop-holds Inv-loop μ-loop
+loop-holds c = search needs
+
+path-in-requires : tie.Need-path-in-requires Inv-loop μ-loop
+path-in-requires c κs = search needs
+
+cast-if1 : tie.Need-cast-if1 Inv-loop μ-loop
+cast-if1 c = search needs
+
+element-copy-out-if1 : tie.Need-element-copy-out-if1 Inv-loop μ-loop
+element-copy-out-if1 c = search needs
+
+returns : tie.Need-returns Inv-loop μ-loop
+returns c = search needs
+
+add-slot : tie.Need-add-slot Inv-loop μ-loop
+add-slot c = search needs
+
+loop-less : tie.Need-loop-less Inv-loop μ-loop
+loop-less c = search needs
+
+loop-again : tie.Need-loop-again Inv-loop μ-loop
+loop-again c = search needs
+
+sub-result : tie.Need-sub-result Inv-loop μ-loop
+sub-result c = search needs
+
+rem-result : tie.Need-rem-result Inv-loop μ-loop
+rem-result c = search needs
+
+add-result : tie.Need-add-result Inv-loop μ-loop
+add-result c = let s = c .before .before in record { fits = let r = mod-lt (s .args .k) {m = s .args .slots - 1} (omega (arith, s .pre)) in omega (arith, r, s .fits) }
+
+returns-2 : tie.Need-returns-2 Inv-loop μ-loop
+returns-2 c = let s = c .before .before in let r = mod-lt (s .args .k) {m = s .args .slots - 1} (omega (arith, s .pre)) in (search needs, omega (arith, r, s .pre))
+
+pub free-slot-spec : {M : Type 1} → statement M
+free-slot-spec =
+    tie.close
+    (tie.spec
+    Inv-loop
+    μ-loop
+    loop-holds
+    path-in-requires
+    cast-if1
+    element-copy-out-if1
+    returns
+    add-slot
+    loop-less
+    loop-again
+    sub-result
+    rem-result
+    add-result
+    returns-2)
