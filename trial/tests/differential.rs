@@ -8,6 +8,7 @@ use faults::fresh::{RIGHT, SEARCHES, SETS};
 use faults::model::{MISREADINGS, misread};
 use faults::names::{MISTAKES, mistaken, names_before_edges};
 use faults::ordering::{self, OTHER_BYTES, OTHER_FINDINGS, TOUCHED};
+use faults::rows;
 use faults::slots::{COMPARINGS, compared};
 use faults::tableau::{self, Fault, NONE};
 use oracle::finding::{Finding, Refusal};
@@ -96,6 +97,7 @@ fn check_situations(complete: &Tally) {
         ("limit", "64 nodes judged"),
         ("names", "met, names used"),
         ("edges", "edge record 1 refused 28"),
+        ("rows", "more paths in use than slots"),
         ("fresh names", "name by itself refused 22"),
         ("slots", "entries that share a slot read"),
         ("older models", "destination one short refused 29"),
@@ -247,6 +249,13 @@ fn misreadings_of_a_model_are_seen() {
 }
 
 #[test]
+fn mistakes_about_the_rows_of_paths_are_seen() {
+    for (words, keeper) in rows::MISTAKES {
+        is_seen_among(words, &|operation, lent| keeper.run(operation, lent));
+    }
+}
+
+#[test]
 fn mistakes_about_the_names_to_be_listed_are_seen() {
     for (words, place) in MISTAKES {
         is_seen_among(words, &|operation, lent| mistaken(place, operation, lent));
@@ -336,6 +345,7 @@ fn the_planted_judges_are_right_without_a_fault() {
     assert!(planted(&|operation, lent| mistaken(lowest, operation, lent)).is_ok());
     assert!(planted(&|operation, lent| unordered(Edges::right, operation, lent)).is_ok());
     assert!(planted(&|operation, lent| NONE.run(operation, lent)).is_ok());
+    assert!(planted(&|operation, lent| rows::RIGHT.run(operation, lent)).is_ok());
     assert!(planted(&|operation, lent| ordering::RIGHT.run(operation, lent)).is_ok());
     assert!(planted(&|operation, lent| ordering::RIGHT.run_judged(operation, lent)).is_ok());
 }

@@ -1,6 +1,7 @@
 //! Document 01's limits, reached exactly and overstepped by one: which of them an input shows.
 
 use super::fresh::{Brought, Had};
+use super::rows::Kept;
 use crate::generate::input::{Input, Operation};
 use oracle::finding::Finding;
 use oracle::pattern;
@@ -10,12 +11,14 @@ use oracle::tableau::{self, HEADER_BYTES, STEP_BYTES};
 /// A limit in words, and whether an input with its finding shows it.
 pub type Limit = (&'static str, fn(&Judged) -> bool);
 
-/// An input with its finding, and what that says of names that a tableau asks for.
+/// An input with its finding, and what that says of names that a tableau asks for, and of the paths of a pattern
+/// whose model is judged.
 pub struct Judged<'a> {
     pub input: &'a Input,
     pub finding: Finding,
     pub(super) had: Option<Had>,
     pub(super) brought: Brought,
+    pub(super) paths: Option<Kept>,
 }
 
 pub const LIMITS: [Limit; 53] = [
@@ -85,7 +88,8 @@ fn brings(step: &[u8], name: u8) -> bool {
 
 impl<'a> Judged<'a> {
     pub fn new(input: &'a Input, finding: Finding) -> Judged<'a> {
-        Judged { input, finding, had: Had::of(input, finding), brought: Brought::of(input, finding) }
+        let (had, brought) = (Had::of(input, finding), Brought::of(input, finding));
+        Judged { input, finding, had, brought, paths: Kept::of(input, finding) }
     }
 
     pub(super) fn refused(&self, number: u16) -> bool {

@@ -5,6 +5,7 @@ use super::fresh::FRESH;
 use super::limits::{LIMITS, Limit};
 use super::names::NAMES;
 use super::older::{JUDGED_OLD, ORDERED};
+use super::rows::ROWS;
 use super::slots::SHARED;
 use crate::generate::input::Operation;
 
@@ -21,7 +22,7 @@ const READING: &[Operation] = &[Operation::Reading];
 const MODEL: &[Operation] = &[Operation::Model];
 const TABLEAU: &[Operation] = &[Operation::Tableau];
 
-pub const SITUATIONS: [Situations; 7] = [
+pub const SITUATIONS: [Situations; 8] = [
     Situations {
         heading: "limits",
         sort: "limit",
@@ -39,6 +40,12 @@ pub const SITUATIONS: [Situations; 7] = [
         sort: "edges",
         of: MODEL,
         shown: &EDGES,
+    },
+    Situations {
+        heading: "paths and the slots of their rows, values and their buckets",
+        sort: "rows",
+        of: MODEL,
+        shown: &ROWS,
     },
     Situations { heading: "start names and fresh names", sort: "fresh names", of: TABLEAU, shown: &FRESH },
     Situations {

@@ -67,6 +67,7 @@ kinds! {
     MutatedModel "a mutated model"
     DisorderedModel "a model with edges out of order"
     ModelLimit "a model at a limit or one over"
+    ManyPaths "a model for a pattern of many paths"
     PlannedModel "a planned model"
     MutatedPlannedModel "a mutated planned model"
     WalkedTableau "a random walk of fitting steps"

@@ -1,8 +1,9 @@
 //! The inputs of the differential run. Input number i of seed s is a function of (s, i) alone.
 //!
 //! `recipes` makes an input of each kind, of these parts: `patterns` and `crowd` make random patterns, `slots`
-//! those whose entries share slots, `models` random models, `walk` random tableaux; `corpus` keeps what the
-//! planner found for them and for patterns that can't occur, which `contradiction` and `composition` make.
+//! those whose entries share slots, `paths` those of many paths (`rows` says which of them have their rows),
+//! `models` random models, `walk` random tableaux; `corpus` keeps what the planner found for them and for
+//! patterns that can't occur, which `contradiction` and `composition` make.
 //! `rename`, `asked`, `disorder`, `age` and `mutate` change files, and `limits` writes those at document 01's limits.
 //! `area` is the working area, or the destination of a model that is put in order.
 
@@ -16,11 +17,13 @@ mod crowd;
 mod disorder;
 pub mod input;
 mod limits;
-mod models;
+pub mod models;
 mod mutate;
+mod paths;
 mod patterns;
 mod recipes;
 mod rename;
+pub mod rows;
 pub mod slots;
 mod walk;
 

@@ -5,6 +5,9 @@ use oracle::model::{Edge, Model, Node};
 use oracle::pattern::Pattern;
 use oracle::random::Random;
 
+/// The proved judgement has a channel's values in so many buckets, by their rest when divided by this number.
+pub const BUCKETS: u16 = 61;
+
 /// A model of a random size for the pattern: mostly of a few nodes, seldom of up to 64 with up to 4,096 edges.
 pub fn random(random: &mut Random, pattern: &Pattern) -> Model {
     let (nodes, edges) = match random.below(200) {
@@ -13,6 +16,16 @@ pub fn random(random: &mut Random, pattern: &Pattern) -> Model {
         _ => (random.between(1, 5), random.between(0, 15)),
     };
     let vocabulary = Vocabulary::random(random);
+    of_size(random, pattern, vocabulary, [nodes, edges])
+}
+
+/// A model of so many nodes, and of so many edges or fewer.
+pub fn of_size(
+    random: &mut Random,
+    pattern: &Pattern,
+    vocabulary: Vocabulary,
+    [nodes, edges]: [usize; 2],
+) -> Model {
     Model {
         nodes: (0..nodes).map(|_| node(random)).collect(),
         names: names(random, pattern, vocabulary, nodes),
@@ -20,13 +33,15 @@ pub fn random(random: &mut Random, pattern: &Pattern) -> Model {
     }
 }
 
-/// A node whose values are often those of other nodes.
+/// A node whose values are often those of other nodes, or share a bucket with them.
 fn node(random: &mut Random) -> Node {
-    if random.once_in(8) {
-        let values = [0; 4].map(|_| random.number() as u16);
-        return Node { properties: random.number() as u32, values };
-    }
-    Node { properties: random.below(8) as u32, values: [0; 4].map(|_| random.below(2) as u16) }
+    let properties = if random.once_in(8) { random.number() as u32 } else { random.below(8) as u32 };
+    let value: fn(&mut Random) -> u16 = match random.below(8) {
+        0 => |random| random.number() as u16,
+        1 => |random| BUCKETS * random.below(3) as u16,
+        _ => |random| random.below(2) as u16,
+    };
+    Node { properties, values: [0; 4].map(|_| value(random)) }
 }
 
 /// Records of different names in any order: the pattern's, now and then without one of them or without some, and
@@ -60,4 +75,16 @@ fn rising(edges: impl Iterator<Item = Edge>) -> Vec<Edge> {
 
 fn edge(random: &mut Random, vocabulary: Vocabulary, nodes: usize) -> Edge {
     (random.below(nodes) as u8, random.below(vocabulary.axes) as u8, random.below(nodes) as u8)
+}
+
+#[cfg(test)]
+mod tests {
+    use super::BUCKETS;
+
+    #[test]
+    fn buckets_are_those_of_the_proved_judgement() {
+        let tables = include_str!("../../../crates/model_tables/src/lib.rt");
+        assert!(tables.contains(&format!("const BUCKETS: u16 = {BUCKETS};")));
+        assert!(tables.contains("value % BUCKETS"));
+    }
 }

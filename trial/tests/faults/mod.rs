@@ -5,5 +5,6 @@ pub mod fresh;
 pub mod model;
 pub mod names;
 pub mod ordering;
+pub mod rows;
 pub mod slots;
 pub mod tableau;

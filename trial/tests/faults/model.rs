@@ -5,11 +5,12 @@ use oracle::model::{self, Model};
 use oracle::pattern::{self, Entry, Pattern};
 use trial::differential::implementation::{Lent, run_oracle};
 use trial::generate::input::Operation;
+use trial::generate::models::BUCKETS;
 
 /// What it takes a pattern and a model for, with the words for it.
 pub type Misreading = (&'static str, fn(&mut Pattern, &mut Model));
 
-pub const MISREADINGS: [Misreading; 9] = [
+pub const MISREADINGS: [Misreading; 10] = [
     ("edges lead the other way", |_, model| {
         model.edges.iter_mut().for_each(|edge| *edge = (edge.2, edge.1, edge.0));
     }),
@@ -43,6 +44,9 @@ pub const MISREADINGS: [Misreading; 9] = [
     }),
     ("a value has one byte", |_, model| {
         model.nodes.iter_mut().flat_map(|node| &mut node.values).for_each(|value| *value &= 255);
+    }),
+    ("values of one bucket are equal", |_, model| {
+        model.nodes.iter_mut().flat_map(|node| &mut node.values).for_each(|value| *value %= BUCKETS);
     }),
     ("a property set has two bytes", |_, model| {
         model.nodes.iter_mut().for_each(|node| node.properties &= 0xffff);

@@ -14,7 +14,7 @@ use crate::generate::{limits, patterns};
 use oracle::random::Random;
 
 /// The share of each kind among the inputs.
-const SHARES: [(usize, Kind); 24] = [
+const SHARES: [(usize, Kind); 25] = [
     (4, Kind::ValidPattern),
     (7, Kind::MutatedPattern),
     (5, Kind::PatternLimit),
@@ -22,6 +22,7 @@ const SHARES: [(usize, Kind); 24] = [
     (7, Kind::MutatedModel),
     (3, Kind::DisorderedModel),
     (4, Kind::ModelLimit),
+    (1, Kind::ManyPaths),
     (4, Kind::PlannedModel),
     (6, Kind::MutatedPlannedModel),
     (7, Kind::WalkedTableau),
@@ -56,6 +57,7 @@ pub fn make(random: &mut Random, corpus: &Corpus, input: &mut Input) {
         Kind::ValidModel | Kind::MutatedModel => model::drawn(random, input),
         Kind::DisorderedModel => model::disordered(random, corpus, input),
         Kind::ModelLimit => model::limit(random, input),
+        Kind::ManyPaths => model::of_many_paths(random, input),
         Kind::PlannedModel | Kind::MutatedPlannedModel => model::planned(random, corpus, input),
         Kind::WalkedTableau | Kind::WrongStep => tableau::random_walk(random, corpus, input),
         Kind::TableauLimit => {

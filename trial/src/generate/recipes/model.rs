@@ -6,7 +6,7 @@ use crate::generate::disorder::disorder;
 use crate::generate::input::{Input, Kind, Never, Operation};
 use crate::generate::mutate::{Sort, mutate};
 use crate::generate::rename::Renaming;
-use crate::generate::{limits, models, patterns};
+use crate::generate::{limits, models, paths, patterns};
 use oracle::pattern;
 use oracle::random::Random;
 
@@ -35,6 +35,18 @@ pub fn limit(random: &mut Random, input: &mut Input) {
     let pattern = patterns::random(random);
     input.pattern = pattern.to_bytes();
     limits::model::model(random, &pattern, &mut input.proposal);
+}
+
+/// A random model for a pattern of many paths.
+pub fn of_many_paths(random: &mut Random, input: &mut Input) {
+    input.operation = Operation::Model;
+    let size = paths::Size::random(random);
+    let vocabulary = patterns::Vocabulary::random(random);
+    let pattern = paths::many(random, vocabulary, size);
+    let edges = size.nodes * random.between(2, 8) * vocabulary.axes / 2;
+    input.pattern = pattern.to_bytes();
+    input.proposal = models::of_size(random, &pattern, vocabulary, [size.nodes, edges]).to_bytes();
+    rename(random, input);
 }
 
 /// A random model with edges out of order, as often as not for a pattern that has a closed tableau.

@@ -1,0 +1,228 @@
+//! Patterns of many paths, which wait for the time when all are there to be used once more.
+
+use super::patterns::Vocabulary;
+use super::rows::{FEW, MANY, ROW, slot_count};
+use oracle::pattern::{Comparison, Entry, Path, Pattern};
+use oracle::planner::builder::MAX_ENTRIES;
+use oracle::random::Random;
+
+/// How many nodes a model for such a pattern has, and how many paths the pattern begins with.
+#[derive(Clone, Copy, Debug)]
+pub struct Size {
+    pub nodes: usize,
+    /// Paths that are only gone on by, each by the next.
+    pub passed: usize,
+    /// Paths that are used once more.
+    pub waiting: usize,
+    /// Whether paths are added that aren't counted here.
+    pub more: bool,
+}
+
+impl Size {
+    /// More paths in use than there are slots; as many as are kept in a small judgement, or one more; or any number.
+    pub fn random(random: &mut Random) -> Size {
+        let any =
+            Size { nodes: random.between(1, 64), passed: 0, waiting: random.between(8, 80), more: true };
+        match random.below(12) {
+            0..7 => Size { nodes: random.between(60, 64), waiting: random.between(96, 102), ..any },
+            7..9 => {
+                let nodes = random.pick(&[8, 11, 16, 23, 32, 64]);
+                Size { nodes, waiting: FEW / (ROW * nodes) - random.below(2), more: false, ..any }
+            }
+            9 => Size { nodes: random.between(1, 24), waiting: random.between(100, 110), ..any },
+            10 => Size { nodes: random.between(48, 64), passed: random.between(80, 180), waiting: 16, ..any },
+            _ => any,
+        }
+    }
+}
+
+/// A pattern that begins with so many paths and uses each once more. Mostly the root reaches all of them.
+pub fn many(random: &mut Random, vocabulary: Vocabulary, size: Size) -> Pattern {
+    let mut making = Making {
+        random,
+        vocabulary,
+        slots: slot_count(MANY, size.nodes) - 1,
+        entries: Vec::new(),
+        nodes: Vec::new(),
+        paths: Vec::new(),
+        loose: Vec::new(),
+        due: Vec::new(),
+    };
+    making.begin(size);
+    if size.more {
+        making.use_again();
+    }
+    let forks = size.more && !making.random.once_in(3);
+    making.join(forks);
+    if making.random.once_in(8) {
+        making.cut();
+    }
+    Pattern { entries: making.entries }
+}
+
+/// A pattern in the making.
+struct Making<'r> {
+    random: &'r mut Random,
+    vocabulary: Vocabulary,
+    /// How many paths have rows at once.
+    slots: usize,
+    entries: Vec<Entry>,
+    nodes: Vec<usize>,
+    paths: Vec<usize>,
+    /// The nodes that nothing refers to.
+    loose: Vec<usize>,
+    /// The paths that are still to be used once more.
+    due: Vec<usize>,
+}
+
+impl Making<'_> {
+    /// The paths that a pattern begins with, after a few nodes that they test.
+    fn begin(&mut self, size: Size) {
+        for property in 0..3 {
+            self.add(Entry::Property(property));
+        }
+        self.add(Entry::Not(0));
+        while self.paths.len() < size.passed {
+            self.due.clear();
+            self.add_path(self.paths.last().copied());
+        }
+        while self.due.len() < size.waiting {
+            let rest = self.rest();
+            self.add_path(rest);
+        }
+    }
+
+    /// Adds entries on paths of any age, as long as there is room beside those that use the paths that are due.
+    fn use_again(&mut self) {
+        while self.room() > 5 && !self.random.once_in(32) {
+            let old = self.old();
+            match self.random.below(3) {
+                0 => {
+                    let others = [old, None, self.old()];
+                    let other = self.random.pick(&others);
+                    self.compare(old, other);
+                    continue;
+                }
+                1 => self.add_path(old),
+                _ => {
+                    let axis = self.axis();
+                    self.add(Entry::Step(axis, self.next_to_lose()));
+                }
+            }
+            let (new, other) = (self.paths.last().copied(), self.rest());
+            if !self.random.once_in(4) {
+                self.compare(new, other);
+            }
+            if self.random.once_in(4) {
+                self.due.pop();
+            }
+        }
+    }
+
+    /// Uses the paths that are due, in comparisons or in one fork of all, and joins the nodes, until one is left.
+    fn join(&mut self, forks: bool) {
+        while forks && self.due.len() > 1 {
+            let (one, other) = (self.take_due(), self.take_due());
+            self.add(Entry::Fork(one, other));
+        }
+        while !self.due.is_empty() {
+            let (one, other) = (self.take_due(), self.take_due());
+            self.compare(one, other);
+        }
+        while self.loose.len() > 1 {
+            let (one, other) = (self.take_loose(), self.take_loose());
+            self.add(Entry::Both(one, other));
+            if self.room() > 0 && self.random.below(4) < 3 {
+                self.add(Entry::Not(self.entries.len() - 1));
+            }
+        }
+    }
+
+    /// Makes another node the root, which reaches fewer entries.
+    fn cut(&mut self) {
+        let root = self.random.pick(&self.nodes);
+        self.entries.truncate(root + 1);
+    }
+
+    /// How many more entries there is room for when all is used and joined.
+    fn room(&self) -> usize {
+        let comparisons = self.due.len().div_ceil(2);
+        let joints = self.loose.len() + comparisons;
+        MAX_ENTRIES.saturating_sub(self.entries.len() + comparisons + joints)
+    }
+
+    /// Adds an entry, if no entry equals it.
+    fn add(&mut self, entry: Entry) {
+        if self.entries.contains(&entry) {
+            return;
+        }
+        let number = self.entries.len();
+        self.loose.retain(|&node| !entry.references().any(|referred| referred == node));
+        if entry.is_path() {
+            self.paths.push(number);
+            self.due.push(number);
+        } else {
+            self.nodes.push(number);
+            self.loose.push(number);
+        }
+        self.entries.push(entry);
+    }
+
+    /// Adds a path that goes on by this one.
+    fn add_path(&mut self, rest: Path) {
+        let axis = self.axis();
+        let name = self.random.below(self.vocabulary.names) as u8;
+        let entry = match self.random.below(8) {
+            0 => Entry::Jump(name, rest),
+            1 | 2 => Entry::Test(self.tested(), rest),
+            3 | 4 if rest.is_some() => Entry::Fork(rest, self.old()),
+            _ => Entry::Step(axis, rest),
+        };
+        self.add(entry);
+    }
+
+    fn compare(&mut self, one: Path, other: Path) {
+        let comparison = self.random.pick(&[Comparison::Same, Comparison::Differ]);
+        let channel = self.random.below(self.vocabulary.channels) as u8;
+        self.add(Entry::Compare(comparison, channel, one, other));
+    }
+
+    /// Any path, mostly one of the first, which lose their rows before others do.
+    fn old(&mut self) -> Path {
+        let few = if self.random.once_in(4) { self.paths.len() } else { self.paths.len().min(16) };
+        Some(self.random.pick(&self.paths[..few]))
+    }
+
+    /// The path whose slot the next path takes, if all are in use and none was taken before.
+    fn next_to_lose(&self) -> Path {
+        self.paths.get(self.entries.len() % self.slots).copied()
+    }
+
+    fn axis(&mut self) -> u8 {
+        self.random.below(self.vocabulary.axes) as u8
+    }
+
+    /// Any node, as often as not the last.
+    fn tested(&mut self) -> usize {
+        let first = if self.random.once_in(2) { self.nodes.len() - 1 } else { 0 };
+        self.random.pick(&self.nodes[first..])
+    }
+
+    /// Any path, the last one, or the end.
+    fn rest(&mut self) -> Path {
+        match self.random.below(4) {
+            0 => None,
+            1 => self.paths.last().copied(),
+            _ => (!self.paths.is_empty()).then(|| self.random.pick(&self.paths)),
+        }
+    }
+
+    /// A path that is due, or the end if none is.
+    fn take_due(&mut self) -> Path {
+        (!self.due.is_empty()).then(|| self.due.swap_remove(self.random.below(self.due.len())))
+    }
+
+    fn take_loose(&mut self) -> usize {
+        self.loose.swap_remove(self.random.below(self.loose.len()))
+    }
+}
