@@ -5,8 +5,8 @@
  * byte strings, and the destination must not overlap the old file. Nothing outside the given lengths is
  * read or written.
  *
- * Stack that was enough on the deepest inputs: 2.5 KB for reading, 10.5 KB for judging a model, 16 KB for
- * judging a tableau, 4.5 KB for putting a model in order. */
+ * Stack that was enough on the deepest inputs: 2.5 KB for reading, 60 KB for judging a model, 16 KB for
+ * judging a tableau, 4.5 KB for putting a model in order. 64 KB are enough for all. */
 #ifndef RISER_H
 #define RISER_H
 

@@ -1,7 +1,7 @@
 //! Series of inputs that grow in one respect.
 
 use super::case::Case;
-use super::inputs::models::{LARGE, Size, random_model};
+use super::inputs::models::{LARGE, Size, in_two_parts, random_model};
 use super::inputs::older::older;
 use super::inputs::patterns;
 use super::inputs::tableaux::{self, Fresh, workshop};
@@ -64,6 +64,7 @@ fn by_entries() -> Vec<Series> {
 fn by_model() -> Vec<Series> {
     let mixed = patterns::mixed(128, patterns::SEED);
     let sweeping = patterns::sweeping_comparisons(128);
+    let steps = patterns::long_path(255, 1);
     let typical = patterns::typical();
     let nodes = |nodes| random_model(Size { nodes, edges: nodes * nodes, ..LARGE }, 1);
     let edges = |edges| random_model(Size { edges, ..LARGE }, 1);
@@ -73,6 +74,9 @@ fn by_model() -> Vec<Series> {
         }),
         Series::new("model, comparisons of long paths, an eighth of all edges", "nodes", NODES, |n| {
             Case::model("", &sweeping, &nodes(n))
+        }),
+        Series::new("model, one path of steps, a graph in two parts", "nodes", NODES, |n| {
+            Case::model("", &steps, &in_two_parts(n))
         }),
         Series::new("model, 20 entries", "edges", EDGES, |n| Case::model("", &typical, &edges(n))),
         Series::new("ordering, an eighth repeated", "edges", EDGES, |n| {

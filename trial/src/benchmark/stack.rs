@@ -77,7 +77,7 @@ mod tests {
     fn stated(proposal: &Proposal) -> usize {
         match proposal {
             Proposal::None => 2560,
-            Proposal::Model(_) => 10_752,
+            Proposal::Model(_) => 61_440,
             Proposal::Tableau(_) => 16_384,
             Proposal::Old(_) => 4608,
         }

@@ -52,11 +52,21 @@ pub fn random_model(size: Size, seed: u64) -> Model {
     Model { nodes, names, edges }
 }
 
+/// Every node leads to every node, on one axis, but for the last, which leads to itself alone: a path never leads to
+/// all nodes.
+pub fn in_two_parts(nodes: usize) -> Model {
+    let mut model = random_model(Size { nodes, ..COMPLETE }, 1);
+    let last = (nodes - 1) as u8;
+    model.edges.retain(|&(from, _, to)| (from == last) == (to == last));
+    model
+}
+
 pub fn cases() -> Vec<Case> {
     let typical = patterns::typical();
     let mixed = patterns::mixed(255, patterns::SEED);
     let judged =
         |name: &str, pattern: &Pattern, size: Size| Case::model(name, pattern, &random_model(size, 1));
+    let apart = |name: &str, pattern: &Pattern| Case::model(name, pattern, &in_two_parts(64));
     vec![
         judged("typical", &typical, TYPICAL),
         judged("typical, contradiction", &patterns::contradicted(patterns::typical()), TYPICAL),
@@ -81,5 +91,10 @@ pub fn cases() -> Vec<Case> {
         judged("the same, four values", &patterns::sweeping_comparisons(255), FEW_VALUES),
         judged("64 comparisons in tests, 127 steps", &patterns::tests_before_a_long_path(255), LARGE),
         judged("128 comparisons, 127 unreached", &patterns::unreached_comparisons(255), ONE_VALUE),
+        judged("rounds, 41 paths in use", &patterns::rounds_of_a_kept_path(), LARGE),
+        judged("rounds, more in use than slots", &patterns::rounds_of_a_lost_path(8), LARGE),
+        apart("the same, a graph in two parts", &patterns::rounds_of_a_lost_path(1)),
+        apart("254 steps, a graph in two parts", &patterns::long_path(255, 1)),
+        apart("false test before 250 steps there", &patterns::false_test(255)),
     ]
 }

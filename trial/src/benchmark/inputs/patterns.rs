@@ -21,6 +21,35 @@ impl Entries {
     pub fn pattern(self) -> Pattern {
         Pattern { entries: self.0 }
     }
+
+    /// Adds a path of so many steps, each on the next axis.
+    fn steps(&mut self, count: usize, axes: usize) -> Path {
+        let mut path = None;
+        for number in 0..count {
+            path = Some(self.add(Entry::Step((number % axes) as u8, path)));
+        }
+        path
+    }
+
+    /// Adds a comparison of a path, and then tests and comparisons in turn up to the count, each comparison of the
+    /// path after the test of the comparison before it.
+    fn rounds(&mut self, count: usize, path: Path, sort: Comparison) -> usize {
+        let mut node = self.add(Entry::Compare(DIFFER, 0, path, None));
+        while self.count() + 2 <= count {
+            let test = self.add(Entry::Test(node, path));
+            node = self.add(Entry::Compare(sort, 0, Some(test), path));
+        }
+        node
+    }
+
+    /// Adds forks of so many paths, from this number on, with the test of a node, and compares their ends.
+    fn use_again(&mut self, first: usize, count: usize, node: usize) {
+        let mut path = self.add(Entry::Test(node, None));
+        for used in first..first + count {
+            path = self.add(Entry::Fork(Some(path), Some(used)));
+        }
+        self.add(Entry::Compare(SAME, 0, Some(path), None));
+    }
 }
 
 const SAME: Comparison = Comparison::Same;
@@ -177,13 +206,22 @@ pub fn shared_forks(count: usize) -> Pattern {
 }
 
 /// A path of steps, each on the next axis, compared at the root.
-pub fn long_path(count: usize, axes: u8) -> Pattern {
+pub fn long_path(count: usize, axes: usize) -> Pattern {
     let mut entries = Entries::default();
-    let mut path = None;
-    for number in 0..count - 1 {
-        path = Some(entries.add(Entry::Step((number % axes as usize) as u8, path)));
-    }
+    let path = entries.steps(count - 1, axes);
     entries.add(Entry::Compare(SAME, 0, path, None));
+    entries.pattern()
+}
+
+/// A path of steps after a test that holds nowhere, compared at the root: where it leads is never asked.
+pub fn false_test(count: usize) -> Pattern {
+    let mut entries = Entries::default();
+    let property = entries.add(Entry::Property(0));
+    let not = entries.add(Entry::Not(property));
+    let never = entries.add(Entry::Both(property, not));
+    let path = entries.steps(count - 5, 1);
+    let test = entries.add(Entry::Test(never, path));
+    entries.add(Entry::Compare(SAME, 0, Some(test), None));
     entries.pattern()
 }
 
@@ -235,15 +273,38 @@ pub fn sweeping_comparisons(count: usize) -> Pattern {
 /// path after the test of the comparison before it: many comparisons, all reached, each of the longest path.
 pub fn tests_before_a_long_path(count: usize) -> Pattern {
     let mut entries = Entries::default();
-    let mut path = None;
-    for number in 0..count / 2 {
-        path = Some(entries.add(Entry::Step((number % 8) as u8, path)));
+    let path = entries.steps(count / 2, 8);
+    entries.rounds(count, path, SAME);
+    entries.pattern()
+}
+
+/// How many paths have rows at once in a judgement of 64 nodes.
+const KEPT: usize = 95;
+
+/// A path of steps, of which the last parts are used again at the end, with another path two more than have rows at
+/// once. Between are rounds of the part that loses its rows, which is swept again and again.
+pub fn rounds_of_a_lost_path(axes: usize) -> Pattern {
+    let (passed, waiting) = (30, KEPT + 1);
+    let mut entries = Entries::default();
+    entries.steps(passed + waiting, axes);
+    entries.add(Entry::Step(7, None));
+    let node = entries.rounds(255 - waiting - 3, Some(2 * passed), DIFFER);
+    entries.use_again(passed, waiting + 1, node);
+    entries.pattern()
+}
+
+/// A path of few steps, whose parts are all used again at the end. Between are rounds of the path, at a distance at
+/// which slots by number would come round to its own: few paths are in use, and none need lose its rows.
+pub fn rounds_of_a_kept_path() -> Pattern {
+    let few = 40;
+    let mut entries = Entries::default();
+    let path = entries.steps(few, 8);
+    let mut node = entries.add(Entry::Property(0));
+    while entries.count() + 1 < few - 1 + KEPT {
+        node = entries.add(Entry::After((entries.count() % 8) as u8, node));
     }
-    let mut node = entries.add(Entry::Compare(DIFFER, 0, path, None));
-    while entries.count() + 2 <= count {
-        let test = entries.add(Entry::Test(node, path));
-        node = entries.add(Entry::Compare(SAME, 0, Some(test), path));
-    }
+    let node = entries.rounds(255 - few - 2, path, SAME);
+    entries.use_again(0, few, node);
     entries.pattern()
 }
 
