@@ -1,7 +1,7 @@
 -- The rows of a path, from those of the paths that it goes on by: 01's clause of its kind gives the ends from each node.
 -- Assumes nothing.
 use mathlib.Core.Path.{_≡_, refl, sym, _∙_, ap, subst}
-use mathlib.Core.Bool.{Bool, true, false, false≢true}
+use mathlib.Core.Bool.{Bool, true, false, _&&_, false≢true}
 use mathlib.Core.Logic.{_⊎_, inl, inr, _↔_, Iff·trans}
 use mathlib.Core.List.{List}
 use Prim.Native.Nat.{ℕ, _+_, _≤_, _<_}
@@ -19,6 +19,7 @@ use Rattle.pattern.specs.File.Entries.{entryAt}
 use Rattle.pattern.specs.File.Reading.{countOf, sortAt}
 use Rattle.pattern.specs.File.Table.{sortOf}
 use Rattle.pattern.specs.File.Valid.{Valid, EarlierPath}
+use Rattle.pattern.specs.Checks.Tests.{and-is-true}
 use Rattle.pattern.specs.Logic.Finite.{Finite, NodeOf, node-same, namingOf}
 use Rattle.relations.specs.declared.kinds.PathKind.{PathKind}
 use Rattle.relations.specs.Kinds.{pathKindOf, IsPathKind, path-kind-is}
@@ -26,7 +27,7 @@ use Rattle.relations.specs.Tables.{IsSet, successorsRow, nameRow}
 use Rattle.relations.specs.Filled.{Filled}
 use Rattle.relations.specs.Paths.{RowBy, InRange, Bounded, Parts, RowsFit}
 use Rattle.evaluation.specs.Standing.{Holding, Leading, Lent, Standing, Evaluates, Ends}
-use Rattle.slots.specs.Marks.{PathOf, firstRow}
+use Rattle.slots.specs.Marks.{PathOf, firstRow, isHeld}
 use Rattle.evaluation.specs.Learned.{Rowed}
 use Rattle.evaluation.specs.Entries.{earlier-path, refers-as, within-as, uses-its-name, path-clause}
 use Rattle.evaluation.specs.Evaluated.{lent-valid}
@@ -38,6 +39,10 @@ otherPath PathKind.Step x y = y
 otherPath PathKind.Jump x y = y
 otherPath PathKind.Test x y = y
 otherPath PathKind.NoPath x y = y
+
+-- the paths that a path entry goes on by have their rows
+abbrev pub goesOnHeld : List ℕ → Entry → Bool
+goesOnHeld marks e = isHeld marks (otherPath (pathKindOf (e .kind)) (e .x) (e .y)) && isHeld marks (e .y)
 
 -- the set of the nodes at which the test of a path holds, if it has one
 abbrev pub TestSet : (bs table alike : List ℕ) → ℕ → PathKind → ℕ → NodeSet → Type 0
@@ -132,6 +137,12 @@ module _ {bs table alike : List ℕ} {n k : ℕ} {e : Entry} {kind : PathKind} (
       go PathKind.Fork is =
           let r = refers-as ok k (q .within) Kind.Fork is in (early (entryAt bs k .x) (r .0), early (entryAt bs k .y) (r .1))
       go PathKind.NoPath is = absurd (is (q .path))
+
+  -- and where they have their rows, each is held
+  pub goes-on-rowed : (marks : List ℕ) → goesOnHeld marks (entryAt bs k) ≡ true
+      → (isHeld marks (otherPath kind (e .x) (e .y)) ≡ true) × (isHeld marks (e .y) ≡ true)
+  goes-on-rowed marks h =
+      rw (q .by, q .same) (and-is-true (isHeld marks (otherPath (pathKindOf (entryAt bs k .kind)) (entryAt bs k .x) (entryAt bs k .y))) (isHeld marks (entryAt bs k .y)) h)
 
   -- the set of a row by the clause is the set of ends
   module _ (rows : List ℕ) (held : NodeSet) (first second : ℕ)

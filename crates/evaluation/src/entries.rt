@@ -62,6 +62,25 @@ pub fn evaluate(
     if is_known(marks, k) {
         return NodeSet::load(area, k as usize);
     }
+    compute(p, table, alike, area, rows, marks, n, k)
+}
+
+// The same from the sets and the ends of the entries that it refers to.
+fn compute(
+    p: &[u8],
+    table: &[u8],
+    alike: &[u8],
+    area: &[u8],
+    rows: &[u8],
+    marks: &[u8; MARKS_BYTES],
+    n: u8,
+    k: u8,
+) -> NodeSet
+    requires { ⌜ Lent (now p) (now table) (now alike) n ⌝ }
+    requires { ⌜ Learned (now p) (now table) (now alike) n (now area) (now rows) (now marks) ⌝ }
+    requires { ⌜ (k < countOf (now p)) × (sortAt (now p) k ≡ Sort.Node) ⌝ }
+    ensures { λ r. ⌜ Evaluates (now (p .entry)) (now (table .entry)) (now (alike .entry)) n k r ⌝ }
+{
     let e = Entry::at(p, k);
     let kind = e.kind;
     let node = node_kind(kind);

@@ -18,12 +18,13 @@ use slots::uses::free_slot;
 ghost use mathlib.Core.Path.{_≡_};
 ghost use Prim.Native.Nat.{_<_};
 ghost use Rattle.pattern.specs.declared.table.Sort.{Sort};
+ghost use Rattle.pattern.specs.File.Entries.{HasEntry, entryAt};
 ghost use Rattle.pattern.specs.File.Reading.{countOf, sortAt};
 ghost use Rattle.relations.specs.Paths.{RowsFit};
 ghost use Rattle.evaluation.specs.Standing.{Lent};
 ghost use Rattle.slots.specs.Marks.{firstRow, IsFree, MayHold, SlotsFit};
 ghost use Rattle.evaluation.specs.Learned.{Learned};
-ghost use Rattle.evaluation.specs.Rows.{otherPath, TestNode, TestSet, SlotFilled};
+ghost use Rattle.evaluation.specs.Rows.{otherPath, goesOnHeld, TestNode, TestSet, SlotFilled};
 
 // Where the test of a path holds, if it has one.
 fn test_nodes(
@@ -64,6 +65,17 @@ fn other_path(kind: PathKind, x: u8, y: u8) -> u8
     }
 }
 
+// Whether the paths that path entry k goes on by have their rows.
+fn goes_on_held(p: &[u8], marks: &[u8; MARKS_BYTES], k: u8) -> bool
+    requires { ⌜ HasEntry (now p) k ⌝ }
+    ensures { λ r. ⌜ r ≡ goesOnHeld (now (marks .entry)) (entryAt (now (p .entry)) k) ⌝ }
+{
+    let e = Entry::at(p, k);
+    let kind = e.kind;
+    let path = path_kind(kind);
+    is_held(marks, other_path(path, e.x, e.y)) & is_held(marks, e.y)
+}
+
 // Fills a slot that no path has with the rows of path entry k, if the paths that it goes on by have
 // theirs.
 fn fill(
@@ -83,15 +95,14 @@ fn fill(
     requires { ⌜ RowsFit (now rows) n (firstRow n slot) × IsFree (now p) (now marks) slot ⌝ }
     ensures { λ r. ⌜ SlotFilled (now (p .entry)) (now (table .entry)) (now (alike .entry)) n k slot (now (rows .entry)) (now (rows .exit)) r ⌝ }
 {
+    if !goes_on_held(p, marks, k) {
+        return false;
+    }
     let e = Entry::at(p, k);
     let kind = e.kind;
     let path = path_kind(kind);
-    let other = other_path(path, e.x, e.y);
-    if !(is_held(marks, other) & is_held(marks, e.y)) {
-        return false;
-    }
     let held = test_nodes(p, table, alike, area, rows, marks, n, path, e.x);
-    let first = row_of_path(marks, n, other);
+    let first = row_of_path(marks, n, other_path(path, e.x, e.y));
     let second = row_of_path(marks, n, e.y);
     let at = first_row(n, slot);
     fill_rows(table, rows, n, path, e.x, held, first, second, at);
@@ -143,7 +154,8 @@ fn learn_node(
     marks[k as usize] = 1;
 }
 
-// Learns entry k, if the root reaches it.
+// Learns entry k, if the root reaches it. A path is passed over where one that it goes on by has no rows,
+// so that no other loses a slot for it.
 pub fn learn(
     p: &[u8],
     table: &[u8],
@@ -169,6 +181,9 @@ pub fn learn(
         learn_node(p, table, alike, area, rows, marks, n, k);
         return;
     }
-    let slot = free_slot(marks, last, slots, k);
+    if !goes_on_held(p, marks, k) {
+        return;
+    }
+    let slot = free_slot(p, marks, last, slots, k);
     learn_path(p, table, alike, area, rows, marks, n, k, slot);
 }

@@ -3,9 +3,9 @@
 -- Assumes nothing.
 use mathlib.Core.Path.{_≡_, sym, _∙_, subst}
 use mathlib.Core.Bool.{true}
-use mathlib.Core.Logic.{_⊎_, inl, inr}
+use mathlib.Core.Logic.{_⊎_, inl, inr, _↔_}
 use mathlib.Core.List.{List}
-use Prim.Native.Nat.{ℕ, _+_, _≤_, _<_}
+use Prim.Native.Nat.{ℕ, _+_, _-_, _≤_, _<_}
 use native.Mathlib.Omega.{arith}
 use native.Mathlib.Nat.{lt-of-lt-of-le}
 use lib.ListN.{length}
@@ -65,15 +65,27 @@ pub record Parts (table rows : List ℕ) (n : ℕ) (kind : PathKind) (x first se
   pub first-fits : RowsFit rows n first
   pub second-fits : RowsFit rows n second
 
+-- node u is not the first, and has the successors on an axis of the node before it
+abbrev pub LeadsAlike : (table : List ℕ) → ℕ → ℕ → Type 0
+LeadsAlike table x u = (1 ≤ u) × (setAt table (successorsRow x (u - 1)) ≡ setAt table (successorsRow x u))
+
+-- the row of node u for a step, the union of the rows of its successors
+abbrev pub StepRow : (table rows : List ℕ) → ℕ → ℕ → ℕ → ℕ → Type 0
+StepRow table rows x second u = Image (λ w. setAt rows (second + w)) (setAt table (successorsRow x u))
+
 -- node v is in the row of node u, by the clause of the kind: of a step the union of the rows of u's successors, of a jump the row of the
 -- named node, of a test the row of u if the test holds there, of a fork both rows of u
 abbrev pub RowBy : PathKind → (table rows : List ℕ) → ℕ → NodeSet → ℕ → ℕ → ℕ → ℕ → Type 0
-RowBy PathKind.Step table rows x held first second u v = Image (λ w. setAt rows (second + w)) (setAt table (successorsRow x u)) v
+RowBy PathKind.Step table rows x held first second u v = StepRow table rows x second u v
 RowBy PathKind.Jump table rows x held first second u v = Image (λ w. setAt rows (second + w)) (setAt table (nameRow x)) v
 RowBy PathKind.Test table rows x held first second u v = (has held u ≡ true) × (has (setAt rows (second + u)) v ≡ true)
 RowBy PathKind.Fork table rows x held first second u v =
     (has (setAt rows (first + u)) v ≡ true) ⊎ (has (setAt rows (second + u)) v ≡ true)
 RowBy PathKind.NoPath table rows x held first second u v = ⊥
+
+-- the rows of the nodes before u are there from `at` on, and filled with the numbers with Q
+abbrev pub FilledBelow : (ℕ → ℕ → Type 0) → List ℕ → ℕ → ℕ → Type 0
+FilledBelow Q rows at u = RowsFit rows u at × ((w : ℕ) → w < u → HasExactly (Q w) (setAt rows (at + w)))
 
 -- the nodes below n of which some end by the one rows and some end by the other compare so, in each model for which the rows of the channel
 -- stand
@@ -138,9 +150,15 @@ module _ (table : List ℕ) (n x : ℕ) (held : NodeSet) (first second : ℕ) wh
 
   pub rows-same : (kind : PathKind) → Bounded kind table n x → (rows rows′ : List ℕ)
       → ((u : ℕ) → u < n → setAt rows′ (first + u) ≡ setAt rows (first + u)) → ((u : ℕ) → u < n → setAt rows′ (second + u) ≡ setAt rows (second + u))
-      → (u : ℕ) → u < n → (s : NodeSet) → HasExactly (RowBy kind table rows′ x held first second u) s
-      → HasExactly (RowBy kind table rows x held first second u) s
-  rows-same kind bounded rows rows′ α β u l s h v = (
-    λ m. row-kept kind bounded rows rows′ α β u l v (h v .0 m),
-    λ r. h v .1 (row-kept kind bounded rows′ rows (λ w b. sym (α w b)) (λ w b. sym (β w b)) u l v r),
+      → (u : ℕ) → u < n → (s : NodeSet)
+      → HasExactly (RowBy kind table rows′ x held first second u) s ↔ HasExactly (RowBy kind table rows x held first second u) s
+  rows-same kind bounded rows rows′ α β u l s = (
+    λ h v. (λ m. there v (h v .0 m), λ r. h v .1 (back v r)),
+    λ h v. (λ m. back v (h v .0 m), λ r. h v .1 (there v r)),
   )
+    where
+      there : (v : ℕ) → RowBy kind table rows′ x held first second u v → RowBy kind table rows x held first second u v
+      there = row-kept kind bounded rows rows′ α β u l
+
+      back : (v : ℕ) → RowBy kind table rows x held first second u v → RowBy kind table rows′ x held first second u v
+      back = row-kept kind bounded rows′ rows (λ w b. sym (α w b)) (λ w b. sym (β w b)) u l

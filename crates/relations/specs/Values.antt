@@ -1,6 +1,6 @@
 -- Comparing the values of nodes, by the table of a model's values.
 -- Assumes nothing.
-use mathlib.Core.Path.{_≡_, sym, _∙_, subst}
+use mathlib.Core.Path.{_≡_, refl, sym, _∙_, subst}
 use mathlib.Core.Bool.{Bool, true, false}
 use mathlib.Core.Logic.{_↔_}
 use mathlib.Core.List.{List}
@@ -21,6 +21,11 @@ Matches Comparison.Differ alike = alike ≡ false
 -- a set has a node that compares so with the node whose set of equal values is given
 abbrev pub Partner : Comparison → NodeSet → NodeSet → Type 0
 Partner c row t = (w : ℕ) × ((has t w ≡ true) × Matches c (has row w))
+
+-- the two sets have a node in common, where a node compares so with itself
+abbrev pub Common : Comparison → NodeSet → NodeSet → Type 0
+Common Comparison.Same s t = (u : ℕ) × ((has s u ≡ true) × (has t u ≡ true))
+Common Comparison.Differ s t = ⊥
 
 -- a member of the first set has one in the second that compares so with it
 abbrev pub Pair : List ℕ → ℕ → Comparison → NodeSet → NodeSet → Type 0
@@ -45,3 +50,11 @@ same-partners F alike e rows c t u v l h (w, (m, q)) = (w, (m, subst (Matches c)
           λ a. let r = rows u l w .0 a in rows v (near .0) w .1 (r .0, sym (near .1) ∙ r .1),
           λ a. let r = rows v (near .0) w .0 a in rows u l w .1 (r .0, near .1 ∙ r .1),
         )
+
+-- a node has its own value, so that a common node is a pair
+pub common-pair : (F : Finite) (alike : List ℕ) (e : ℕ) → AlikeOn F alike e → (c : Comparison) (s t : NodeSet) → Inside F s
+    → Common c s t → Pair alike e c s t
+common-pair F alike e rows Comparison.Same s t inside (u, (m, k)) =
+    let l = inside u m in
+    (u, (m, (u, (k, rows u l u .1 (l, refl)))))
+common-pair F alike e rows Comparison.Differ s t inside h = absurd h

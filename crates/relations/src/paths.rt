@@ -8,15 +8,16 @@ use crate::values::some_pair;
 use nodeset::NodeSet;
 use pattern::types::Comparison;
 ghost use mathlib.Core.Path.{_≡_};
+ghost use mathlib.Core.Bool.{true};
 ghost use Prim.Native.Nat.{_+_, _≤_, _<_};
 ghost use lib.ListN.{length};
 ghost use Rattle.nodeset.specs.Set.{width};
-ghost use Rattle.nodeset.specs.Stored.{tableBytes};
+ghost use Rattle.nodeset.specs.Stored.{tableBytes, setAt};
 ghost use Rattle.nodeset.specs.Members.{HasExactly};
-ghost use Rattle.pattern.specs.File.Types.{maxChannel};
-ghost use Rattle.relations.specs.Tables.{alikeRows};
+ghost use Rattle.pattern.specs.File.Types.{maxAxis, maxChannel};
+ghost use Rattle.relations.specs.Tables.{successorsRow, modelRows, alikeRows};
 ghost use Rattle.relations.specs.Filled.{Filled};
-ghost use Rattle.relations.specs.Paths.{RowsFit, Covers, Apart, Parts, RowBy, RowsCompared};
+ghost use Rattle.relations.specs.Paths.{RowsFit, Covers, Apart, Within, Parts, LeadsAlike, StepRow, RowBy, FilledBelow, RowsCompared};
 
 // A set that has all nodes of the n rows from `first` on: of a step, whose rows are unions, no more than
 // those, and of the others every node.
@@ -34,8 +35,43 @@ fn reach(rows: &[u8], n: u8, kind: PathKind, first: usize) -> NodeSet
     }
 }
 
+// Whether node u has the successors on an axis of the node before it.
+fn leads_alike(table: &[u8], axis: u8, u: u8) -> bool
+    requires { ⌜ tableBytes modelRows ≤ length (now table) ⌝ }
+    requires { ⌜ (axis ≤ maxAxis) × (u < width) ⌝ }
+    ensures { λ r. ⌜ (r ≡ true → LeadsAlike (now (table .entry)) axis u) ⌝ }
+{
+    if u == 0 {
+        return false;
+    }
+    successors(table, axis, u).number() == successors(table, axis, u - 1).number()
+}
+
+// The row of node u for a step: that of the node before it, if it has the successors of that node, else
+// the union of the rows of its successors.
+fn step_row(
+    table: &[u8],
+    rows: &[u8],
+    axis: u8,
+    second: usize,
+    all: NodeSet,
+    at: usize,
+    u: u8,
+) -> NodeSet
+    requires { ⌜ (tableBytes modelRows ≤ length (now table)) × (axis ≤ maxAxis) × (u < width) ⌝ }
+    requires { ⌜ Within (now rows) second (setAt (now table) (successorsRow axis u)) all ⌝ }
+    requires { ⌜ FilledBelow (StepRow (now table) (now rows) axis second) (now rows) at u ⌝ }
+    ensures { λ r. ⌜ HasExactly (StepRow (now (table .entry)) (now (rows .entry)) axis second u) r ⌝ }
+{
+    if leads_alike(table, axis, u) {
+        return NodeSet::load(rows, at + ((u - 1) as usize));
+    }
+    union_within(rows, second, successors(table, axis, u), all)
+}
+
 // The row of node u, by the clause of the path's kind: x is its first field, `held` where its test
-// holds, and the rows of the paths that it goes on by begin at `first` and at `second`.
+// holds, and the rows of the paths that it goes on by begin at `first` and at `second`. From `at` on
+// stand the rows of the nodes before u.
 fn clause_row(
     table: &[u8],
     rows: &[u8],
@@ -45,16 +81,18 @@ fn clause_row(
     first: usize,
     second: usize,
     all: NodeSet,
+    at: usize,
     n: u8,
     u: u8,
 ) -> NodeSet
     requires { ⌜ Parts (now table) (now rows) n kind x first second ⌝ }
     requires { ⌜ Covers (now rows) n second all ⌝ }
     requires { ⌜ u < n ⌝ }
+    requires { ⌜ FilledBelow (RowBy kind (now table) (now rows) x held first second) (now rows) at u ⌝ }
     ensures { λ r. ⌜ HasExactly (RowBy kind (now (table .entry)) (now (rows .entry)) x held first second u) r ⌝ }
 {
     match kind {
-        PathKind::Step => union_within(rows, second, successors(table, x, u), all),
+        PathKind::Step => step_row(table, rows, x, second, all, at, u),
         PathKind::Jump => union_within(rows, second, with_name(table, x), all),
         PathKind::Test => {
             if held.has(u) {
@@ -90,7 +128,7 @@ pub fn fill_rows(
     let all = reach(rows, n, kind, second);
     let mut u = 0;
     while u < n {
-        let s = clause_row(table, rows, kind, x, held, first, second, all, n, u);
+        let s = clause_row(table, rows, kind, x, held, first, second, all, at, n, u);
         s.store(rows, at + (u as usize));
         u += 1;
     }

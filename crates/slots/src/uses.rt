@@ -7,18 +7,24 @@ use pattern::entry::sort_at;
 use pattern::table::END;
 use pattern::table::Field;
 ghost use mathlib.Core.Path.{_≡_};
+ghost use mathlib.Core.Logic.{_⊎_};
 ghost use Prim.Native.Nat.{_≤_, _<_};
 ghost use Rattle.pattern.specs.Checks.Finding.{found};
 ghost use Rattle.pattern.specs.File.Entries.{HasEntry};
 ghost use Rattle.pattern.specs.File.Reading.{countOf, readingOf};
 
-// For each reference the last entry that the root reaches and that has it; 0 where there is none.
+// For each reference an entry that the root reaches and that has it; 0 where there is none.
 pub const USES_BYTES: usize = END as usize + 1;
 
-// Entry j has a field that holds this. As entries are met from the last down, the first to refer to an
-// entry is the last that does.
-fn refer(last: &mut [u8; USES_BYTES], field: Field, value: u8, j: u8) {
-    let is_reference = match field {
+// The last such entry, or the next behind one.
+enum Use {
+    Last,
+    Next,
+}
+
+// Whether a field refers to an entry.
+fn is_reference(field: Field) -> bool {
+    match field {
         Field::Unused => false,
         Field::Property => false,
         Field::Name => false,
@@ -26,14 +32,27 @@ fn refer(last: &mut [u8; USES_BYTES], field: Field, value: u8, j: u8) {
         Field::Channel => false,
         Field::Node => true,
         Field::Path => true,
-    };
-    if is_reference & (last[value as usize] == 0) {
-        last[value as usize] = j;
+    }
+}
+
+// Whether a use is noted where there is this one. Entries are met from the last down, so that the first
+// that is met is the last use, and each further one the next.
+fn is_noted(which: Use, noted: u8) -> bool {
+    match which {
+        Use::Last => noted == 0,
+        Use::Next => true,
+    }
+}
+
+// Entry j has a field that holds this.
+fn refer(uses: &mut [u8; USES_BYTES], which: Use, field: Field, value: u8, j: u8) {
+    if is_reference(field) & is_noted(which, uses[value as usize]) {
+        uses[value as usize] = j;
     }
 }
 
 // Entry j, which the root reaches, uses its parts.
-fn refer_to_parts(p: &[u8], j: u8, last: &mut [u8; USES_BYTES])
+fn refer_to_parts(p: &[u8], uses: &mut [u8; USES_BYTES], which: Use, j: u8)
     requires { ⌜ HasEntry (now p) j ⌝ }
 {
     let e = Entry::at(p, j);
@@ -42,12 +61,13 @@ fn refer_to_parts(p: &[u8], j: u8, last: &mut [u8; USES_BYTES])
     let x = form.x;
     let y = form.y;
     let z = form.z;
-    refer(last, x, e.x, j);
-    refer(last, y, e.y, j);
-    refer(last, z, e.z, j);
+    refer(uses, which, x, e.x, j);
+    refer(uses, which, y, e.y, j);
+    refer(uses, which, z, e.z, j);
 }
 
-// The last uses of all entries; the root counts as used to the end.
+// The last uses of all entries. The root counts as used to the end, and the end of path, of which every
+// slot without rows has the tag, as not used.
 pub fn last_uses(p: &[u8], last: &mut [u8; USES_BYTES])
     requires { ⌜ readingOf (now p) ≡ found (countOf (now p)) ⌝ }
 {
@@ -56,8 +76,22 @@ pub fn last_uses(p: &[u8], last: &mut [u8; USES_BYTES])
     while 0 < j {
         j -= 1;
         if last[j as usize] != 0 {
-            refer_to_parts(p, j, last);
+            refer_to_parts(p, last, Use::Last, j);
         }
+    }
+    last[END as usize] = 0;
+}
+
+// The next uses behind entry k.
+fn next_uses(p: &[u8], last: &[u8; USES_BYTES], k: u8, next: &mut [u8; USES_BYTES])
+    requires { ⌜ readingOf (now p) ≡ found (countOf (now p)) ⌝ }
+{
+    let mut j = p[5] - 1;
+    while k < j {
+        if last[j as usize] != 0 {
+            refer_to_parts(p, next, Use::Next, j);
+        }
+        j -= 1;
     }
 }
 
@@ -86,9 +120,53 @@ pub fn path_count(p: &[u8], last: &[u8; USES_BYTES]) -> u8
     found
 }
 
+// The one of two slots whose path is used later.
+fn later_slot(marks: &[u8; MARKS_BYTES], next: &[u8; USES_BYTES], s: u8, t: u8) -> u8
+    ensures { λ r. ⌜ (r ≡ s) ⊎ (r ≡ t) ⌝ }
+{
+    let first = path_in(marks, s);
+    let second = path_in(marks, t);
+    if next[first as usize] < next[second as usize] {
+        return t;
+    }
+    s
+}
+
+// The slot whose path is used again last of all, not that of the end of path.
+fn latest_slot(marks: &[u8; MARKS_BYTES], next: &[u8; USES_BYTES], slots: u8) -> u8
+    requires { ⌜ 2 ≤ slots ⌝ }
+    ensures { λ r. ⌜ (0 < r) × (r < slots) ⌝ }
+{
+    let mut latest = 1;
+    let mut slot = 2;
+    while slot < slots {
+        latest = later_slot(marks, next, latest, slot);
+        slot += 1;
+    }
+    latest
+}
+
+// The slot that is taken from its path for entry k where all are in use.
+fn taken_slot(p: &[u8], marks: &[u8; MARKS_BYTES], last: &[u8; USES_BYTES], slots: u8, k: u8) -> u8
+    requires { ⌜ readingOf (now p) ≡ found (countOf (now p)) ⌝ }
+    requires { ⌜ 2 ≤ slots ⌝ }
+    ensures { λ r. ⌜ (0 < r) × (r < slots) ⌝ }
+{
+    let mut next = [0u8; USES_BYTES];
+    next_uses(p, last, k, &mut next);
+    latest_slot(marks, &next, slots)
+}
+
 // A slot for path entry k, not that of the end of path: the first whose path isn't used from k on, else
-// any.
-pub fn free_slot(marks: &[u8; MARKS_BYTES], last: &[u8; USES_BYTES], slots: u8, k: u8) -> u8
+// the one whose path is used again last.
+pub fn free_slot(
+    p: &[u8],
+    marks: &[u8; MARKS_BYTES],
+    last: &[u8; USES_BYTES],
+    slots: u8,
+    k: u8,
+) -> u8
+    requires { ⌜ readingOf (now p) ≡ found (countOf (now p)) ⌝ }
     requires { ⌜ 2 ≤ slots ⌝ }
     ensures { λ r. ⌜ (0 < r) × (r < slots) ⌝ }
 {
@@ -100,5 +178,5 @@ pub fn free_slot(marks: &[u8; MARKS_BYTES], last: &[u8; USES_BYTES], slots: u8, 
         }
         slot += 1;
     }
-    k % (slots - 1) + 1
+    taken_slot(p, marks, last, slots, k)
 }

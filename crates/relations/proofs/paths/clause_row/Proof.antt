@@ -21,16 +21,14 @@ asked c s bound =
 enum-told : tie.Need-enum-told
 enum-told c = search needs
 
-successors-requires : tie.Need-successors-requires
-successors-requires c κs =
-    let p = c .before .before .before .before .pre in
-    (p .0 .table-long, (rw (c .enum-told .given .1) at (p .0 .in-range), search needs))
-
-union-within-requires : tie.Need-union-within-requires
-union-within-requires c κs =
-    let s = c .before .before .before .before .before in
-    let bounded = rw (c .before .enum-told .given .1) at (s .pre .0 .bounded) in
-    asked s _ (λ v m. bounded (s .args .u) v (s .pre .1 .1) (rw (c .successors .ensures) at m))
+step-row-requires : tie.Need-step-row-requires
+step-row-requires c κs =
+    let s = c .before .before .before .before in
+    let told = c .enum-told .given .1 in
+    let bounded = rw told at (s .pre .0 .bounded) in (
+      (s .pre .0 .table-long, rw told at (s .pre .0 .in-range), search needs),
+      (asked s _ (λ v. bounded (s .args .u) v (s .pre .1 .1 .0)), rw told at (s .pre .1 .1 .1)),
+    )
 
 enum-told-2 : tie.Need-enum-told-2
 enum-told-2 c = search needs
@@ -40,8 +38,8 @@ with-name-requires c κs =
     let p = c .before .before .before .before .pre in
     (p .0 .table-long, rw (c .enum-told2 .given .1) at (p .0 .in-range))
 
-union-within-requires-2 : tie.Need-union-within-requires-2
-union-within-requires-2 c κs =
+union-within-requires : tie.Need-union-within-requires
+union-within-requires c κs =
     let s = c .before .before .before .before .before in
     let bounded = rw (c .before .enum-told2 .given .1) at (s .pre .0 .bounded) in
     asked s _ (λ v m. bounded v (rw (c .with-name .ensures) at m))
@@ -91,10 +89,10 @@ empty-requires-2 : tie.Need-empty-requires-2
 empty-requires-2 c κs = search needs
 
 returns-2 : tie.Need-returns-2
-returns-2 c = rw (c .before .before .enum-told .given .1) (rw (c .before .successors .ensures) at (c .union-within .ensures))
+returns-2 c = rw (c .before .enum-told .given .1) (c .step-row .ensures)
 
 returns-3 : tie.Need-returns-3
-returns-3 c = rw (c .before .before .enum-told2 .given .1) (rw (c .before .with-name .ensures) at (c .union-within2 .ensures))
+returns-3 c = rw (c .before .before .enum-told2 .given .1) (rw (c .before .with-name .ensures) at (c .union-within .ensures))
 
 returns-4 : tie.Need-returns-4
 returns-4 c =
@@ -115,11 +113,10 @@ clause-row-spec =
     tie.close
     (tie.spec
     enum-told
-    successors-requires
-    union-within-requires
+    step-row-requires
     enum-told-2
     with-name-requires
-    union-within-requires-2
+    union-within-requires
     enum-told-3
     has-requires
     add-load

@@ -1,10 +1,13 @@
 -- `relations::paths::fill_rows` meets its contract: the rows of the nodes passed are filled, and those that they are made from stay.
 -- Assumes nothing.
 use mathlib.Core.Path.{_≡_, refl, _∙_}
+use mathlib.Core.Logic.{_↔_}
 use Prim.Native.Nat.{ℕ, _+_, _-_, _≤_, _<_}
 use native.Mathlib.Omega.{arith}
 use lib.ListN.{length}
 use borrow.Author.Needs.{needs}
+use Rattle.nodeset.specs.declared.NodeSet.{NodeSet}
+use Rattle.nodeset.specs.Members.{HasExactly}
 use Rattle.nodeset.specs.Stored.{setAt, length-put}
 use Rattle.relations.specs.Filled.{Filled, filled-none, filled-more}
 use Rattle.relations.specs.Paths.{Apart, RowBy, apart-kept, covers-kept, parts-kept, rows-same}
@@ -26,6 +29,17 @@ kept l from apart =
     let a = l .before .before .before .before .before .args in
     apart-kept _ (a .n) (l .loop .u) from (a .at) (a .rows .now) (l .loop .rows) apart (l .loop .inv .0) (l .loop .inv .2)
 
+-- so that the row of a node is by them what it was by the rows at entry
+same : (l : tie.At-loop Inv-loop μ-loop)
+    → let a = l .before .before .before .before .before .args in
+    (i : ℕ) → i < a .n → (s : NodeSet) → HasExactly (RowBy (a .kind) (a .table .now) (l .loop .rows) (a .x) (a .held) (a .first) (a .second) i) s
+    ↔ HasExactly (RowBy (a .kind) (a .table .now) (a .rows .now) (a .x) (a .held) (a .first) (a .second) i) s
+same l =
+    let s = l .before .before .before .before .before in
+    let a = s .args in
+    rows-same (a .table .now) (a .n) (a .x) (a .held) (a .first) (a .second) (a .kind) (s .pre .0 .bounded) (a .rows .now) (l .loop .rows)
+    (kept l (a .first) (s .pre .1 .1 .0)) (kept l (a .second) (s .pre .1 .1 .1))
+
 reach-requires : tie.Need-reach-requires Inv-loop μ-loop
 reach-requires c κs =
     let p = c .before .before .before .pre .0 in
@@ -40,9 +54,15 @@ clause-row-requires c κs =
     let s = l .before .before .before .before .before in
     let a = s .args in
     let all = l .before .reach in
-    let same = kept l (a .second) (s .pre .1 .1 .1) in (
+    let second = kept l (a .second) (s .pre .1 .1 .1) in (
       parts-kept (a .table .now) (a .rows .now) (l .loop .rows) (a .n) (a .kind) (a .x) (a .first) (a .second) (l .loop .inv .1) (s .pre .0),
-      (covers-kept (a .n) (a .second) (all .result) (a .rows .now) (l .loop .rows) same (all .ensures), search needs),
+      (
+        covers-kept (a .n) (a .second) (all .result) (a .rows .now) (l .loop .rows) second (all .ensures),
+        (
+          search needs,
+          (search needs, λ w b. same l w (search needs) _ .1 (l .loop .inv .2 .rows w b)),
+        ),
+      ),
     )
 
 cast-store : tie.Need-cast-store Inv-loop μ-loop
@@ -66,9 +86,7 @@ loop-again c =
     let l = w .before .before .before .before .before in
     let s = l .before .before .before .before .before in
     let a = s .args in
-    let row =
-    rows-same (a .table .now) (a .n) (a .x) (a .held) (a .first) (a .second) (a .kind) (s .pre .0 .bounded) (a .rows .now) (l .loop .rows)
-    (kept l (a .first) (s .pre .1 .1 .0)) (kept l (a .second) (s .pre .1 .1 .1)) (l .loop .u) (search needs) _ (w .before .before .clause-row .ensures) in (
+    let row = same l (l .loop .u) (search needs) _ .0 (w .before .before .clause-row .ensures) in (
       search needs,
       rw (w .store .ensures) (length-put _ _ _ ∙ l .loop .inv .1),
       rw (w .store .ensures)

@@ -3,19 +3,18 @@
 use borrow.Author.Needs.{needs}
 use mathlib.Core.Path.{_≡_}
 use Prim.Native.Nat.{ℕ, _≤_, _<_, _-_}
-use native.Mathlib.Nat.{mod-lt}
 use native.Mathlib.Omega.{arith}
 use Rattle.slots.proofs.uses.free_slot.Statement.{statement}
 use Rattle.slots.proofs.uses.free_slot.Tie as tie
 
 abbrev Inv-loop : tie.InvT-loop
-Inv-loop marks last slots k slot₀ slot = (0 < slot) × (slot ≤ slots)
+Inv-loop p marks last slots k slot₀ slot = (0 < slot) × (slot ≤ slots)
 
 abbrev μ-loop : tie.MeasureT-loop
-μ-loop marks last slots k slot₀ slot = slots - slot
+μ-loop p marks last slots k slot₀ slot = slots - slot
 
 loop-holds : tie.Need-loop-holds Inv-loop μ-loop
-loop-holds c = search needs
+loop-holds c = (omega arith, search needs)
 
 path-in-requires : tie.Need-path-in-requires Inv-loop μ-loop
 path-in-requires c κs = search needs
@@ -38,17 +37,11 @@ loop-less c = search needs
 loop-again : tie.Need-loop-again Inv-loop μ-loop
 loop-again c = search needs
 
-sub-result : tie.Need-sub-result Inv-loop μ-loop
-sub-result c = search needs
-
-rem-result : tie.Need-rem-result Inv-loop μ-loop
-rem-result c = search needs
-
-add-result : tie.Need-add-result Inv-loop μ-loop
-add-result c = let s = c .before .before in record { fits = let r = mod-lt (s .args .k) {m = s .args .slots - 1} (omega (arith, s .pre)) in omega (arith, r, s .fits) }
+taken-slot-requires : tie.Need-taken-slot-requires Inv-loop μ-loop
+taken-slot-requires c κs = search needs
 
 returns-2 : tie.Need-returns-2 Inv-loop μ-loop
-returns-2 c = let s = c .before .before in let r = mod-lt (s .args .k) {m = s .args .slots - 1} (omega (arith, s .pre)) in (search needs, omega (arith, r, s .pre))
+returns-2 c = search needs
 
 pub free-slot-spec : {M : Type 1} → statement M
 free-slot-spec =
@@ -64,7 +57,5 @@ free-slot-spec =
     add-slot
     loop-less
     loop-again
-    sub-result
-    rem-result
-    add-result
+    taken-slot-requires
     returns-2)

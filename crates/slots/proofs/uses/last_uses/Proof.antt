@@ -54,6 +54,12 @@ loop-less-2 c = search needs
 loop-again-2 : tie.Need-loop-again-2 Inv-loop μ-loop
 loop-again-2 c = omega (arith, c .before .before .before .loop .inv)
 
+cast-last-2 : tie.Need-cast-last-2 Inv-loop μ-loop
+cast-last-2 c = search needs
+
+element-write-last-2 : tie.Need-element-write-last-2 Inv-loop μ-loop
+element-write-last-2 c = search needs
+
 returns : tie.Need-returns Inv-loop μ-loop
 returns c = search needs
 
@@ -76,4 +82,6 @@ last-uses-spec =
     loop-again
     loop-less-2
     loop-again-2
+    cast-last-2
+    element-write-last-2
     returns)

@@ -14,10 +14,10 @@ use Rattle.evaluation.specs.Sweep.{entriesSwept}
 use Rattle.evaluation.specs.Entries.{reference-fits}
 use Rattle.evaluation.specs.Evaluated.{lent-valid}
 use Rattle.evaluation.specs.SweepEntry.{SweptAt, sweep-begins, sweep-goes-on, sweep-ends, swept-below}
-use Rattle.evaluation.proofs.entries.+compare+ends+evaluate+sweep_entry.Proof.Claims.{ends-claims, ends-at}
+use Rattle.evaluation.proofs.entries.+compare+compute+ends+evaluate+sweep_entry.Proof.Claims.{ends-claims, ends-at}
 use Rattle.evaluation.proofs.entries.ends.Reads as reads
 use Rattle.evaluation.proofs.entries.ends.Kinds as kinds
-use Rattle.evaluation.proofs.entries.+compare+ends+evaluate+sweep_entry.Lts-ends as lts
+use Rattle.evaluation.proofs.entries.+compare+compute+ends+evaluate+sweep_entry.Lts-ends as lts
 
 abbrev Inv-loop : lts.InvT-loop
 Inv-loop p table alike area rows marks n path u pending₀ j₀ pending j =

@@ -7,10 +7,10 @@ use Prim.Native.Nat.{ℕ}
 use native.Mathlib.Omega.{arith}
 use Rattle.evaluation.specs.Evaluated.{entry-long}
 use Rattle.evaluation.specs.SweepEntry.{PathEntry, sweeps-none, step-axis, jump-name, test-node, test-rest, sweeps-step, sweeps-jump, sweeps-test, sweeps-fork, sweeps-no-path}
-use Rattle.evaluation.proofs.entries.+compare+ends+evaluate+sweep_entry.Proof.Claims.{sweep-entry-claims, sweep-entry-at}
+use Rattle.evaluation.proofs.entries.+compare+compute+ends+evaluate+sweep_entry.Proof.Claims.{sweep-entry-claims, sweep-entry-at}
 use Rattle.evaluation.proofs.entries.sweep_entry.Reads as reads
 use Rattle.evaluation.proofs.entries.sweep_entry.Kinds as kinds
-use Rattle.evaluation.proofs.entries.+compare+ends+evaluate+sweep_entry.Lts-sweep_entry as lts
+use Rattle.evaluation.proofs.entries.+compare+compute+ends+evaluate+sweep_entry.Lts-sweep_entry as lts
 
 module _ (t : ℕ) where
   -- what is said of the function where its measure is t

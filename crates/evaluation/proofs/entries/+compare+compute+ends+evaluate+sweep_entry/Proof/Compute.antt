@@ -1,8 +1,8 @@
--- `evaluation::entries::evaluate` meets its contract where its measure is t: at each kind the set is that of the entry.
+-- `evaluation::entries::compute` meets its contract where its measure is t: at each kind the set is that of the entry.
 -- Assumes nothing.
 use borrow.Author.Needs.{needs}
 use borrow.Fn.Kinds.{In, Out}
-use mathlib.Core.Path.{_≡_, sym, _∙_}
+use mathlib.Core.Path.{_≡_}
 use Prim.Native.Nat.{ℕ, _+_, _*_, _<_}
 use native.Mathlib.Omega.{arith}
 use Rattle.pattern.specs.File.Valid.{EarlierNode}
@@ -10,31 +10,23 @@ use Rattle.pattern.specs.File.Reading.{countOf, sortAt}
 use Rattle.pattern.specs.declared.table.Sort.{Sort}
 use Rattle.evaluation.specs.Standing.{Lent}
 use Rattle.evaluation.specs.Learned.{Learned}
-use Rattle.evaluation.specs.Evaluated.{entry-long, set-long, NodeEntry, property-within, name-within, axis-within, not-refers, both-refers, after-refers, compares, evaluates-property, evaluates-name, evaluates-not, evaluates-both, evaluates-after, evaluates-none}
-use Rattle.evaluation.proofs.entries.+compare+ends+evaluate+sweep_entry.Proof.Claims.{evaluate-claims, evaluate-at}
-use Rattle.evaluation.proofs.entries.evaluate.Reads as reads
-use Rattle.evaluation.proofs.entries.evaluate.Kinds as kinds
-use Rattle.evaluation.proofs.entries.+compare+ends+evaluate+sweep_entry.Lts-evaluate as lts
+use Rattle.evaluation.specs.Evaluated.{entry-long, NodeEntry, property-within, name-within, axis-within, not-refers, both-refers, after-refers, compares, evaluates-property, evaluates-name, evaluates-not, evaluates-both, evaluates-after, evaluates-none}
+use Rattle.evaluation.proofs.entries.+compare+compute+ends+evaluate+sweep_entry.Proof.Claims.{compute-claims, compute-at}
+use Rattle.evaluation.proofs.entries.compute.Reads as reads
+use Rattle.evaluation.proofs.entries.compute.Kinds as kinds
+use Rattle.evaluation.proofs.entries.+compare+compute+ends+evaluate+sweep_entry.Lts-compute as lts
 
 module _ (t : ℕ) where
   -- what is said of the function where its measure is t
   abbrev Of : (lts.Claims → In 6 kinds.ps → Out 6 kinds.ps kinds.r → Type 0) → Type 0
-  Of X = X (evaluate-claims t) (evaluate-at t) reads.Post
-
-  load-requires : Of lts.Need-load-requires
-  load-requires c κs = let s = c .before .before .before .before .before .before .before in set-long (s .pre .1 .0) (s .args .area .now) (s .pre .1 .1 .0 .area-long) (s .args .k) (s .pre .1 .1 .1 .0)
-
-  returns : Of lts.Need-returns
-  returns c = let s = c .before .before .before .before .before .before .before .before in
-      rw (c .load .ensures)
-      (s .pre .1 .1 .0 .sets (s .args .k) (s .pre .1 .1 .1 .0) (s .pre .1 .1 .1 .1) (sym (c .before .before .is-known .ensures) ∙ c .before .if1 .taken))
+  Of X = X (compute-claims t) (compute-at t) reads.Post
 
   at-requires : Of lts.Need-at-requires
-  at-requires c κs = let s = c .before .before .before .before .before .before .before in entry-long (s .pre .1 .0) (s .args .k) (s .pre .1 .1 .1 .0)
+  at-requires c κs = let s = c .before .before .before .before .before in entry-long (s .pre .1 .0) (s .args .k) (s .pre .1 .1 .1 .0)
 
   -- where the function begins, from where the kind is known
   abbrev start : Of lts.After-node-kind → Of lts.Start
-  start c = c .before .before .before .before .before .before .before .before .before
+  start c = c .before .before .before .before .before .before .before
 
   -- the entry that is evaluated
   entry : (c : Of lts.After-node-kind)
@@ -85,39 +77,36 @@ module _ (t : ℕ) where
       let n = entry k in
       (omega (arith, start k .pre .0), (n .lent, (start k .pre .1 .1 .0, (n .within, compares n _ (c .before .node .given .1)))))
 
+  returns : Of lts.Need-returns
+  returns c = let n = entry (c .before .before .before) in rw (c .with-property .ensures) (evaluates-property n (c .before .enum-told .given .1))
+
   returns-2 : Of lts.Need-returns-2
-  returns-2 c = let n = entry (c .before .before .before) in rw (c .with-property .ensures) (evaluates-property n (c .before .enum-told .given .1))
+  returns-2 c = let n = entry (c .before .before .before) in rw (c .with-name .ensures) (evaluates-name n (c .before .enum-told2 .given .1))
 
   returns-3 : Of lts.Need-returns-3
-  returns-3 c = let n = entry (c .before .before .before) in rw (c .with-name .ensures) (evaluates-name n (c .before .enum-told2 .given .1))
+  returns-3 c = let e = c .before .before .before in
+      let n = entry (e .before .before) in
+      rw (c .minus .ensures, c .before .all-nodes .ensures) (evaluates-not n (c .before .before .evaluate .result) (e .enum-told3 .given .1) (c .before .before .evaluate .ensures))
 
   returns-4 : Of lts.Need-returns-4
   returns-4 c = let e = c .before .before .before in
       let n = entry (e .before .before) in
-      rw (c .minus .ensures, c .before .all-nodes .ensures) (evaluates-not n (c .before .before .evaluate .result) (e .enum-told3 .given .1) (c .before .before .evaluate .ensures))
-
-  returns-5 : Of lts.Need-returns-5
-  returns-5 c = let e = c .before .before .before in
-      let n = entry (e .before .before) in
       rw (c .meet .ensures) (evaluates-both n (c .before .before .evaluate2 .result) (c .before .evaluate3 .result) (e .enum-told4 .given .1) (c .before .before .evaluate2 .ensures) (c .before .evaluate3 .ensures))
 
-  returns-6 : Of lts.Need-returns-6
-  returns-6 c = let e = c .before .before in
+  returns-5 : Of lts.Need-returns-5
+  returns-5 c = let e = c .before .before in
       let n = entry (e .before .before) in
       evaluates-after n (c .before .evaluate4 .result) (c .before2 .result) (e .enum-told5 .given .1) (c .before .evaluate4 .ensures) (c .before2 .ensures)
 
+  returns-6 : Of lts.Need-returns-6
+  returns-6 c = c .compare .ensures
+
   returns-7 : Of lts.Need-returns-7
-  returns-7 c = c .compare .ensures
+  returns-7 c = evaluates-none (entry (c .before .before .before)) (c .empty .result) (c .before .enum-told6 .given .1)
 
-  returns-8 : Of lts.Need-returns-8
-  returns-8 c = evaluates-none (entry (c .before .before .before)) (c .empty .result) (c .before .enum-told6 .given .1)
-
-  pub closed : {M : Type 1} → lts.Closed (evaluate-claims t) (evaluate-at t) reads.Post M
+  pub closed : {M : Type 1} → lts.Closed (compute-claims t) (compute-at t) reads.Post M
   closed =
-      lts.spec (evaluate-claims t) (evaluate-at t) reads.Post
-      (λ c κs. search needs)
-      load-requires
-      returns
+      lts.spec (compute-claims t) (compute-at t) reads.Post
       at-requires
       (λ c κs. search needs)
       (λ c. search needs)
@@ -139,10 +128,10 @@ module _ (t : ℕ) where
       compare-requires
       (λ c. search needs)
       (λ c κs. search needs)
+      returns
       returns-2
       returns-3
       returns-4
       returns-5
       returns-6
       returns-7
-      returns-8

@@ -17,10 +17,10 @@ use Rattle.evaluation.specs.Sweep.{entriesSwept}
 use Rattle.evaluation.specs.Entries.{earlier-path}
 use Rattle.evaluation.specs.Evaluated.{CollectedAt, entry-long, lent-valid, compare-fields, collects-none, collects-next, collects-rows, evaluates-compare}
 use Rattle.evaluation.specs.SweepEntry.{swept-below}
-use Rattle.evaluation.proofs.entries.+compare+ends+evaluate+sweep_entry.Proof.Claims.{compare-claims, compare-at}
+use Rattle.evaluation.proofs.entries.+compare+compute+ends+evaluate+sweep_entry.Proof.Claims.{compare-claims, compare-at}
 use Rattle.evaluation.proofs.entries.compare.Reads as reads
 use Rattle.evaluation.proofs.entries.compare.Kinds as kinds
-use Rattle.evaluation.proofs.entries.+compare+ends+evaluate+sweep_entry.Lts-compare as lts
+use Rattle.evaluation.proofs.entries.+compare+compute+ends+evaluate+sweep_entry.Lts-compare as lts
 
 abbrev Inv-loop : lts.InvT-loop
 Inv-loop p table alike area rows marks n k c e found₀ u₀ found u = (u ≤ n) × CollectedAt p table alike n k c u found

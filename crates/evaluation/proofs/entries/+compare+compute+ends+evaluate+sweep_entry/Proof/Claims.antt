@@ -1,4 +1,4 @@
--- What the four functions of the cycle ask of each other and of the functions that they call: the measure of each, which is by the entry
+-- What the five functions of the cycle ask of each other and of the functions that they call: the measure of each, which is by the entry
 -- number, and the claims at a measure.
 -- Assumes nothing.
 use borrow.Fn.Kinds.{In}
@@ -30,20 +30,26 @@ use Rattle.relations.proofs.model.with_property.Reads as with-property-reads
 use Rattle.evaluation.specs.Sweep.{entriesSwept}
 use Rattle.evaluation.proofs.entries.compare.Reads as compare
 use Rattle.evaluation.proofs.entries.compare.Kinds as compare-kinds
-use Rattle.evaluation.proofs.entries.+compare+ends+evaluate+sweep_entry.Lts-compare as compare-lts
+use Rattle.evaluation.proofs.entries.+compare+compute+ends+evaluate+sweep_entry.Lts-compare as compare-lts
 use Rattle.evaluation.proofs.entries.ends.Reads as ends
 use Rattle.evaluation.proofs.entries.ends.Kinds as ends-kinds
-use Rattle.evaluation.proofs.entries.+compare+ends+evaluate+sweep_entry.Lts-ends as ends-lts
+use Rattle.evaluation.proofs.entries.+compare+compute+ends+evaluate+sweep_entry.Lts-ends as ends-lts
 use Rattle.evaluation.proofs.entries.evaluate.Reads as evaluate
 use Rattle.evaluation.proofs.entries.evaluate.Kinds as evaluate-kinds
-use Rattle.evaluation.proofs.entries.+compare+ends+evaluate+sweep_entry.Lts-evaluate as evaluate-lts
+use Rattle.evaluation.proofs.entries.+compare+compute+ends+evaluate+sweep_entry.Lts-evaluate as evaluate-lts
+use Rattle.evaluation.proofs.entries.compute.Reads as compute
+use Rattle.evaluation.proofs.entries.compute.Kinds as compute-kinds
+use Rattle.evaluation.proofs.entries.+compare+compute+ends+evaluate+sweep_entry.Lts-compute as compute-lts
 use Rattle.evaluation.proofs.entries.sweep_entry.Reads as sweep-entry
 use Rattle.evaluation.proofs.entries.sweep_entry.Kinds as sweep-entry-kinds
-use Rattle.evaluation.proofs.entries.+compare+ends+evaluate+sweep_entry.Lts-sweep_entry as sweep-entry-lts
+use Rattle.evaluation.proofs.entries.+compare+compute+ends+evaluate+sweep_entry.Lts-sweep_entry as sweep-entry-lts
 
 -- the measures: the entry number first, and among functions at one entry who calls whom
 abbrev pub μ-compare : Measures 6 compare-kinds.ps ℕ
-μ-compare κs a = 8 * a .1 .1 .1 .1 .1 .1 .1 .0 + 5
+μ-compare κs a = 8 * a .1 .1 .1 .1 .1 .1 .1 .0 + 4
+
+abbrev pub μ-compute : Measures 6 compute-kinds.ps ℕ
+μ-compute κs a = 8 * a .1 .1 .1 .1 .1 .1 .1 .0 + 5
 
 abbrev pub μ-ends : Measures 6 ends-kinds.ps ℕ
 μ-ends κs a = 8 * entriesSwept (a .1 .1 .1 .1 .1 .1 .1 .0)
@@ -72,6 +78,12 @@ evaluate-at t = and 6 evaluate-kinds.ps (is 6 evaluate-kinds.ps μ-evaluate t) e
 
 abbrev pub evaluate-below : ℕ → In 6 evaluate-kinds.ps
 evaluate-below t = and 6 evaluate-kinds.ps (falls 6 evaluate-kinds.ps _<_ μ-evaluate t) evaluate.Pre
+
+abbrev pub compute-at : ℕ → In 6 compute-kinds.ps
+compute-at t = and 6 compute-kinds.ps (is 6 compute-kinds.ps μ-compute t) compute.Pre
+
+abbrev pub compute-below : ℕ → In 6 compute-kinds.ps
+compute-below t = and 6 compute-kinds.ps (falls 6 compute-kinds.ps _<_ μ-compute t) compute.Pre
 
 abbrev pub sweep-entry-at : ℕ → In 7 sweep-entry-kinds.ps
 sweep-entry-at t = and 7 sweep-entry-kinds.ps (is 7 sweep-entry-kinds.ps μ-sweep-entry t) sweep-entry.Pre
@@ -124,6 +136,12 @@ evaluate-claims t = (
   is-known-reads.Learnt,
   load-reads.Asked,
   load-reads.Learnt,
+  compute-below t,
+  compute.Post,
+)
+
+abbrev pub compute-claims : ℕ → compute-lts.Claims
+compute-claims t = (
   at-reads.Asked,
   at-reads.Learnt,
   node-kind-reads.Asked,
