@@ -1,7 +1,7 @@
 -- The rows of a path, from those of the paths that it goes on by: 01's clause of its kind gives the ends from each node.
 -- Assumes nothing.
 use mathlib.Core.Path.{_≡_, refl, sym, _∙_, ap, subst}
-use mathlib.Core.Bool.{Bool, true, false, _&&_, false≢true}
+use mathlib.Core.Bool.{Bool, true, false, false≢true}
 use mathlib.Core.Logic.{_⊎_, inl, inr, _↔_, Iff·trans}
 use mathlib.Core.List.{List}
 use Prim.Native.Nat.{ℕ, _+_, _≤_, _<_}
@@ -16,10 +16,10 @@ use Rattle.pattern.specs.declared.table.Kind.{Kind}
 use Rattle.pattern.specs.declared.entry.Entry.{Entry}
 use Rattle.pattern.specs.declared.table.Sort.{Sort}
 use Rattle.pattern.specs.File.Entries.{entryAt}
+use Rattle.pattern.specs.File.Fields.{OfReferences, eachField}
 use Rattle.pattern.specs.File.Reading.{countOf, sortAt}
 use Rattle.pattern.specs.File.Table.{sortOf}
 use Rattle.pattern.specs.File.Valid.{Valid, EarlierPath}
-use Rattle.pattern.specs.Checks.Tests.{and-is-true}
 use Rattle.pattern.specs.Logic.Finite.{Finite, NodeOf, node-same, namingOf}
 use Rattle.relations.specs.declared.kinds.PathKind.{PathKind}
 use Rattle.relations.specs.Kinds.{pathKindOf, IsPathKind, path-kind-is}
@@ -27,7 +27,7 @@ use Rattle.relations.specs.Tables.{IsSet, successorsRow, nameRow}
 use Rattle.relations.specs.Filled.{Filled}
 use Rattle.relations.specs.Paths.{RowBy, InRange, Bounded, Parts, RowsFit}
 use Rattle.evaluation.specs.Standing.{Holding, Leading, Lent, Standing, Evaluates, Ends}
-use Rattle.slots.specs.Marks.{PathOf, firstRow, isHeld}
+use Rattle.slots.specs.Marks.{PathOf, firstRow, isHeld, fieldHeld, each-held}
 use Rattle.evaluation.specs.Learned.{Rowed}
 use Rattle.evaluation.specs.Entries.{earlier-path, refers-as, within-as, uses-its-name, path-clause}
 use Rattle.evaluation.specs.Evaluated.{lent-valid}
@@ -39,10 +39,6 @@ otherPath PathKind.Step x y = y
 otherPath PathKind.Jump x y = y
 otherPath PathKind.Test x y = y
 otherPath PathKind.NoPath x y = y
-
--- the paths that a path entry goes on by have their rows
-abbrev pub goesOnHeld : List ℕ → Entry → Bool
-goesOnHeld marks e = isHeld marks (otherPath (pathKindOf (e .kind)) (e .x) (e .y)) && isHeld marks (e .y)
 
 -- the set of the nodes at which the test of a path holds, if it has one
 abbrev pub TestSet : (bs table alike : List ℕ) → ℕ → PathKind → ℕ → NodeSet → Type 0
@@ -138,11 +134,24 @@ module _ {bs table alike : List ℕ} {n k : ℕ} {e : Entry} {kind : PathKind} (
           let r = refers-as ok k (q .within) Kind.Fork is in (early (entryAt bs k .x) (r .0), early (entryAt bs k .y) (r .1))
       go PathKind.NoPath is = absurd (is (q .path))
 
-  -- and where they have their rows, each is held
-  pub goes-on-rowed : (marks : List ℕ) → goesOnHeld marks (entryAt bs k) ≡ true
+  -- and where all that it refers to have their rows, these have theirs
+  pub goes-on-held : (marks : List ℕ) → eachField (fieldHeld marks) (entryAt bs k) ≡ true
       → (isHeld marks (otherPath kind (e .x) (e .y)) ≡ true) × (isHeld marks (e .y) ≡ true)
-  goes-on-rowed marks h =
-      rw (q .by, q .same) (and-is-true (isHeld marks (otherPath (pathKindOf (entryAt bs k .kind)) (entryAt bs k .x) (entryAt bs k .y))) (isHeld marks (entryAt bs k .y)) h)
+  goes-on-held marks h = rw (q .same) (go kind kind-is)
+    where
+      parts : (κ : Kind) → entryAt bs k .kind ≡ κ
+          → OfReferences (λ v. Unit {0}) (λ v. isHeld marks v ≡ true) (record { kind = κ; x = entryAt bs k .x; y = entryAt bs k .y; z = entryAt bs k .z })
+      parts κ is =
+          subst (λ (κ′ : Kind). OfReferences (λ v. Unit {0}) (λ v. isHeld marks v ≡ true) (record { kind = κ′; x = entryAt bs k .x; y = entryAt bs k .y; z = entryAt bs k .z })) is
+          (each-held marks (entryAt bs k) h)
+
+      go : (t : PathKind) → IsPathKind t (entryAt bs k .kind)
+          → (isHeld marks (otherPath t (entryAt bs k .x) (entryAt bs k .y)) ≡ true) × (isHeld marks (entryAt bs k .y) ≡ true)
+      go PathKind.Step is = let r = parts Kind.Step is in (r .1, r .1)
+      go PathKind.Jump is = let r = parts Kind.Jump is in (r .1, r .1)
+      go PathKind.Test is = let r = parts Kind.Test is in (r .1, r .1)
+      go PathKind.Fork is = let r = parts Kind.Fork is in (r .0, r .1)
+      go PathKind.NoPath is = absurd (is (q .path))
 
   -- the set of a row by the clause is the set of ends
   module _ (rows : List ℕ) (held : NodeSet) (first second : ℕ)

@@ -12,19 +12,20 @@ use slots::marks::MARKS_BYTES;
 use slots::marks::TAGS;
 use slots::marks::first_row;
 use slots::marks::is_held;
+use slots::marks::paths_held;
 use slots::marks::row_of_path;
 use slots::uses::USES_BYTES;
 use slots::uses::free_slot;
+use slots::uses::uses_again;
 ghost use mathlib.Core.Path.{_≡_};
 ghost use Prim.Native.Nat.{_<_};
 ghost use Rattle.pattern.specs.declared.table.Sort.{Sort};
-ghost use Rattle.pattern.specs.File.Entries.{HasEntry, entryAt};
 ghost use Rattle.pattern.specs.File.Reading.{countOf, sortAt};
 ghost use Rattle.relations.specs.Paths.{RowsFit};
 ghost use Rattle.evaluation.specs.Standing.{Lent};
 ghost use Rattle.slots.specs.Marks.{firstRow, IsFree, MayHold, SlotsFit};
 ghost use Rattle.evaluation.specs.Learned.{Learned};
-ghost use Rattle.evaluation.specs.Rows.{otherPath, goesOnHeld, TestNode, TestSet, SlotFilled};
+ghost use Rattle.evaluation.specs.Rows.{otherPath, TestNode, TestSet, SlotFilled};
 
 // Where the test of a path holds, if it has one.
 fn test_nodes(
@@ -65,17 +66,6 @@ fn other_path(kind: PathKind, x: u8, y: u8) -> u8
     }
 }
 
-// Whether the paths that path entry k goes on by have their rows.
-fn goes_on_held(p: &[u8], marks: &[u8; MARKS_BYTES], k: u8) -> bool
-    requires { ⌜ HasEntry (now p) k ⌝ }
-    ensures { λ r. ⌜ r ≡ goesOnHeld (now (marks .entry)) (entryAt (now (p .entry)) k) ⌝ }
-{
-    let e = Entry::at(p, k);
-    let kind = e.kind;
-    let path = path_kind(kind);
-    is_held(marks, other_path(path, e.x, e.y)) & is_held(marks, e.y)
-}
-
 // Fills a slot that no path has with the rows of path entry k, if the paths that it goes on by have
 // theirs.
 fn fill(
@@ -95,7 +85,7 @@ fn fill(
     requires { ⌜ RowsFit (now rows) n (firstRow n slot) × IsFree (now p) (now marks) slot ⌝ }
     ensures { λ r. ⌜ SlotFilled (now (p .entry)) (now (table .entry)) (now (alike .entry)) n k slot (now (rows .entry)) (now (rows .exit)) r ⌝ }
 {
-    if !goes_on_held(p, marks, k) {
+    if !paths_held(p, marks, k) {
         return false;
     }
     let e = Entry::at(p, k);
@@ -154,8 +144,145 @@ fn learn_node(
     marks[k as usize] = 1;
 }
 
-// Learns entry k, if the root reaches it. A path is passed over where one that it goes on by has no rows,
-// so that no other loses a slot for it.
+// Path entry j gets a slot and its rows for entry k, by these uses. It is passed over where a path that it
+// goes on by has no rows, so that no other loses a slot for it.
+fn learn_in_slot(
+    p: &[u8],
+    table: &[u8],
+    alike: &[u8],
+    area: &[u8],
+    rows: &mut [u8],
+    marks: &mut [u8; MARKS_BYTES],
+    n: u8,
+    slots: u8,
+    last: &[u8; USES_BYTES],
+    uses: &[u8; USES_BYTES],
+    k: u8,
+    j: u8,
+)
+    requires { ⌜ Lent (now p) (now table) (now alike) n ⌝ }
+    requires { ⌜ Learned (now p) (now table) (now alike) n (now area) (now rows) (now marks) ⌝ }
+    requires { ⌜ SlotsFit (now rows) n slots ⌝ }
+    requires { ⌜ (j < countOf (now p)) × (sortAt (now p) j ≡ Sort.Path) ⌝ }
+    ensures { λ _. ⌜ Learned (now (p .entry)) (now (table .entry)) (now (alike .entry)) n (now (area .entry)) (now (rows .exit)) (now (marks .exit)) ⌝ }
+{
+    if !paths_held(p, marks, j) {
+        return;
+    }
+    let slot = free_slot(p, marks, last, uses, slots, k, j);
+    learn_path(p, table, alike, area, rows, marks, n, j, slot);
+}
+
+// The same of entry j if it is a path that is needed and has no rows.
+fn learn_again(
+    p: &[u8],
+    table: &[u8],
+    alike: &[u8],
+    area: &[u8],
+    rows: &mut [u8],
+    marks: &mut [u8; MARKS_BYTES],
+    n: u8,
+    slots: u8,
+    last: &[u8; USES_BYTES],
+    uses: &[u8; USES_BYTES],
+    k: u8,
+    j: u8,
+)
+    requires { ⌜ Lent (now p) (now table) (now alike) n ⌝ }
+    requires { ⌜ Learned (now p) (now table) (now alike) n (now area) (now rows) (now marks) ⌝ }
+    requires { ⌜ SlotsFit (now rows) n slots ⌝ }
+    requires { ⌜ j < countOf (now p) ⌝ }
+    ensures { λ _. ⌜ Learned (now (p .entry)) (now (table .entry)) (now (alike .entry)) n (now (area .entry)) (now (rows .exit)) (now (marks .exit)) ⌝ }
+{
+    if (uses[j as usize] == 0) | is_held(marks, j) {
+        return;
+    }
+    if sort_at(p, j).is_node() {
+        return;
+    }
+    learn_in_slot(
+        p,
+        table,
+        alike,
+        area,
+        rows,
+        marks,
+        n,
+        slots,
+        last,
+        uses,
+        k,
+        j,
+    );
+}
+
+// The paths below entry k that it needs get their rows again, in the order of the entries.
+fn learn_needed(
+    p: &[u8],
+    table: &[u8],
+    alike: &[u8],
+    area: &[u8],
+    rows: &mut [u8],
+    marks: &mut [u8; MARKS_BYTES],
+    n: u8,
+    slots: u8,
+    last: &[u8; USES_BYTES],
+    k: u8,
+)
+    requires { ⌜ Lent (now p) (now table) (now alike) n ⌝ }
+    requires { ⌜ Learned (now p) (now table) (now alike) n (now area) (now rows) (now marks) ⌝ }
+    requires { ⌜ SlotsFit (now rows) n slots ⌝ }
+    requires { ⌜ k < countOf (now p) ⌝ }
+    ensures { λ _. ⌜ Learned (now (p .entry)) (now (table .entry)) (now (alike .entry)) n (now (area .entry)) (now (rows .exit)) (now (marks .exit)) ⌝ }
+{
+    let mut uses = [0u8; USES_BYTES];
+    uses_again(p, last, k, &mut uses);
+    let mut j = 0;
+    while j < k {
+        learn_again(
+            p,
+            table,
+            alike,
+            area,
+            rows,
+            marks,
+            n,
+            slots,
+            last,
+            &uses,
+            k,
+            j,
+        );
+        j += 1;
+    }
+}
+
+// The same where a path that entry k refers to has lost its rows.
+fn bring_back(
+    p: &[u8],
+    table: &[u8],
+    alike: &[u8],
+    area: &[u8],
+    rows: &mut [u8],
+    marks: &mut [u8; MARKS_BYTES],
+    n: u8,
+    slots: u8,
+    last: &[u8; USES_BYTES],
+    k: u8,
+)
+    requires { ⌜ Lent (now p) (now table) (now alike) n ⌝ }
+    requires { ⌜ Learned (now p) (now table) (now alike) n (now area) (now rows) (now marks) ⌝ }
+    requires { ⌜ SlotsFit (now rows) n slots ⌝ }
+    requires { ⌜ k < countOf (now p) ⌝ }
+    ensures { λ _. ⌜ Learned (now (p .entry)) (now (table .entry)) (now (alike .entry)) n (now (area .entry)) (now (rows .exit)) (now (marks .exit)) ⌝ }
+{
+    if paths_held(p, marks, k) {
+        return;
+    }
+    learn_needed(p, table, alike, area, rows, marks, n, slots, last, k);
+}
+
+// Learns entry k, if the root reaches it.
 pub fn learn(
     p: &[u8],
     table: &[u8],
@@ -177,13 +304,23 @@ pub fn learn(
     if last[k as usize] == 0 {
         return;
     }
+    bring_back(p, table, alike, area, rows, marks, n, slots, last, k);
     if sort_at(p, k).is_node() {
         learn_node(p, table, alike, area, rows, marks, n, k);
         return;
     }
-    if !goes_on_held(p, marks, k) {
-        return;
-    }
-    let slot = free_slot(p, marks, last, slots, k);
-    learn_path(p, table, alike, area, rows, marks, n, k, slot);
+    learn_in_slot(
+        p,
+        table,
+        alike,
+        area,
+        rows,
+        marks,
+        n,
+        slots,
+        last,
+        last,
+        k,
+        k,
+    );
 }

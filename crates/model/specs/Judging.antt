@@ -181,6 +181,11 @@ pub judging-says : (bs ds : List ℕ) (size : ℕ) (j : Judged) → (judgingOf b
 unfolding judgingBy
 judging-says bs ds size j = (apart, together)
   where
+    together : Judgement bs ds size j → judgingOf bs ds size ≡ found j
+    together h =
+        rw (checks-pass Order.Rising bs ds size .1 (h .pattern-valid, h .area-long, h .model-valid, h .edges-rise, h .names-listed))
+        (ap found (judged-says (modelFrom ds) (all-named (h .model-valid)) (rootOf bs) j .1 (h .says)))
+
     apart : judgingOf bs ds size ≡ found j → Judgement bs ds size j
     apart h =
         let r = found-passes (judgingCheck Order.Rising bs ds size) (judgedOf (modelFrom ds) (rootOf bs)) j h in
@@ -193,11 +198,6 @@ judging-says bs ds size j = (apart, together)
           names-listed = c .4;
           says = judged-says (modelFrom ds) (all-named (c .2)) (rootOf bs) j .0 (r .1);
         }
-
-    together : Judgement bs ds size j → judgingOf bs ds size ≡ found j
-    together h =
-        rw (checks-pass Order.Rising bs ds size .1 (h .pattern-valid, h .area-long, h .model-valid, h .edges-rise, h .names-listed))
-        (ap found (judged-says (modelFrom ds) (all-named (h .model-valid)) (rootOf bs) j .1 (h .says)))
 
 -- ---- what 02's jobs left as it was
 

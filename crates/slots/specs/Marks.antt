@@ -2,6 +2,7 @@
 -- Assumes nothing.
 use mathlib.Core.Path.{_≡_, refl, _∙_, subst}
 use mathlib.Core.Bool.{Bool, true, false, not}
+use mathlib.Core.Logic.{_↔_}
 use mathlib.Core.List.{List}
 use Prim.Native.Nat.{ℕ, _+_, _-_, _*_, _/_, _≤_, _<_}
 use native.Mathlib.Nat.{mul-suc, mul-comm, mul-assoc, mul-le-mul-left, le-div-iff-mul-le}
@@ -10,7 +11,10 @@ use lib.ListN.{length, getD}
 use lib.Dec.{eqb, ltb}
 use borrow.Author.Tests.{ltb-true, ltb-false}
 use Rattle.nodeset.specs.Stored.{tableBytes}
+use Rattle.pattern.specs.declared.table.Field.{Field}
+use Rattle.pattern.specs.declared.entry.Entry.{Entry}
 use Rattle.pattern.specs.File.Table.{endOfPath}
+use Rattle.pattern.specs.File.Fields.{OfReference, OfReferences, eachField, each-field}
 use Rattle.pattern.specs.File.Reading.{countOf}
 use Rattle.pattern.specs.File.Valid.{EarlierPath}
 
@@ -34,6 +38,16 @@ tagFor path = endOfPath - path
 
 abbrev pub isHeld : List ℕ → ℕ → Bool
 isHeld marks path = eqb (tagOf marks (markOf marks path)) (tagFor path)
+
+-- a field that refers to a path refers to one that has its rows
+abbrev pub fieldHeld : List ℕ → Field → ℕ → Bool
+fieldHeld marks Field.Path v = isHeld marks v
+fieldHeld marks Field.Unused v = true
+fieldHeld marks Field.Property v = true
+fieldHeld marks Field.Name v = true
+fieldHeld marks Field.Axis v = true
+fieldHeld marks Field.Channel v = true
+fieldHeld marks Field.Node v = true
 
 -- the first of the n rows of a slot, and of the slot that a path was given
 abbrev pub firstRow : ℕ → ℕ → ℕ
@@ -79,3 +93,16 @@ slots-within bytes n r some l =
 
 pub two-within : (bytes n : ℕ) → 0 < n → tableBytes (2 * n) ≤ bytes → 2 ≤ bytes / (8 * n)
 two-within bytes n some l = le-div-iff-mul-le {k = 8 * n} {x = 2} {y = bytes} (omega (arith, some)) .1 (omega (arith, l))
+
+-- where all paths that an entry refers to have their rows, each has
+pub each-held : (marks : List ℕ) (e : Entry) → eachField (fieldHeld marks) e ≡ true → OfReferences (λ v. Unit {0}) (λ v. isHeld marks v ≡ true) e
+each-held marks e h = each-field (fieldHeld marks) (OfReference (λ v. Unit {0}) (λ v. isHeld marks v ≡ true)) says e .0 h
+  where
+    says : (F : Field) (v : ℕ) → (fieldHeld marks F v ≡ true) ↔ OfReference (λ v′. Unit {0}) (λ v′. isHeld marks v′ ≡ true) F v
+    says Field.Path v = (λ p. p, λ p. p)
+    says Field.Unused v = (λ p. tt, λ p. refl)
+    says Field.Property v = (λ p. tt, λ p. refl)
+    says Field.Name v = (λ p. tt, λ p. refl)
+    says Field.Axis v = (λ p. tt, λ p. refl)
+    says Field.Channel v = (λ p. tt, λ p. refl)
+    says Field.Node v = (λ p. tt, λ p. refl)

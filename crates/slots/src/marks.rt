@@ -4,12 +4,16 @@
 // slot has the tag of the end of path. The rows of the end of path are in slot 0, which no other path is
 // given.
 use nodeset::NodeSet;
+use pattern::entry::Entry;
 use pattern::table::END;
+use pattern::table::Field;
 ghost use mathlib.Core.Path.{_≡_};
 ghost use Prim.Native.Nat.{_*_, _≤_, _<_};
 ghost use Rattle.nodeset.specs.Set.{width};
 ghost use Rattle.nodeset.specs.Stored.{tableBytes};
-ghost use Rattle.slots.specs.Marks.{markOf, tagOf, tagFor, isKnown, isHeld, firstRow, rowOfPath};
+ghost use Rattle.pattern.specs.File.Entries.{HasEntry, entryAt};
+ghost use Rattle.pattern.specs.File.Fields.{eachField};
+ghost use Rattle.slots.specs.Marks.{markOf, tagOf, tagFor, isKnown, isHeld, fieldHeld, firstRow, rowOfPath};
 
 // A mark for each entry and for the end of path, and a tag for each slot.
 pub const MARKS_BYTES: usize = 2 * TAGS;
@@ -50,6 +54,36 @@ pub fn is_held(marks: &[u8; MARKS_BYTES], path: u8) -> bool
     ensures { λ r. ⌜ r ≡ isHeld (now (marks .entry)) path ⌝ }
 {
     tag_of(marks, slot_of(marks, path)) == END - path
+}
+
+// Whether a field that refers to a path refers to one that has its rows.
+fn field_held(marks: &[u8; MARKS_BYTES], field: Field, value: u8) -> bool
+    ensures { λ r. ⌜ r ≡ fieldHeld (now (marks .entry)) field value ⌝ }
+{
+    match field {
+        Field::Path => is_held(marks, value),
+        Field::Unused => true,
+        Field::Property => true,
+        Field::Name => true,
+        Field::Axis => true,
+        Field::Channel => true,
+        Field::Node => true,
+    }
+}
+
+// Whether all paths that entry k refers to have their rows.
+pub fn paths_held(p: &[u8], marks: &[u8; MARKS_BYTES], k: u8) -> bool
+    requires { ⌜ HasEntry (now p) k ⌝ }
+    ensures { λ r. ⌜ r ≡ eachField (fieldHeld (now (marks .entry))) (entryAt (now (p .entry)) k) ⌝ }
+{
+    let e = Entry::at(p, k);
+    let kind = e.kind;
+    let form = kind.form();
+    let x = form.x;
+    let y = form.y;
+    let z = form.z;
+    let first = field_held(marks, x, e.x) & field_held(marks, y, e.y);
+    first & field_held(marks, z, e.z)
 }
 
 // The first row of a slot of n rows.

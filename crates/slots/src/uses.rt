@@ -157,14 +157,54 @@ fn taken_slot(p: &[u8], marks: &[u8; MARKS_BYTES], last: &[u8; USES_BYTES], slot
     latest_slot(marks, &next, slots)
 }
 
-// A slot for path entry k, not that of the end of path: the first whose path isn't used from k on, else
-// the one whose path is used again last.
+// The paths that entry k needs, those that it refers to and those that they go on by: the last use of each
+// up to k.
+fn needed_uses(p: &[u8], k: u8, uses: &mut [u8; USES_BYTES])
+    requires { ⌜ readingOf (now p) ≡ found (countOf (now p)) ⌝ }
+    requires { ⌜ k < countOf (now p) ⌝ }
+{
+    refer_to_parts(p, uses, Use::Last, k);
+    let mut j = k;
+    while 0 < j {
+        j -= 1;
+        if (uses[j as usize] != 0) & sort_at(p, j).is_path() {
+            refer_to_parts(p, uses, Use::Last, j);
+        }
+    }
+}
+
+// What is used behind entry k counts as used to the end.
+fn keep_later(last: &[u8; USES_BYTES], k: u8, uses: &mut [u8; USES_BYTES]) {
+    let mut r = 0;
+    while r < END {
+        if k < last[r as usize] {
+            uses[r as usize] = END;
+        }
+        r += 1;
+    }
+}
+
+// Until when each path is used while those that entry k needs are learned again: those to the last that
+// needs them, and what is used behind k to the end.
+pub fn uses_again(p: &[u8], last: &[u8; USES_BYTES], k: u8, uses: &mut [u8; USES_BYTES])
+    requires { ⌜ readingOf (now p) ≡ found (countOf (now p)) ⌝ }
+    requires { ⌜ k < countOf (now p) ⌝ }
+{
+    needed_uses(p, k, uses);
+    keep_later(last, k, uses);
+    uses[END as usize] = 0;
+}
+
+// A slot for path entry j, which is learned for entry k, not that of the end of path: the first whose path
+// isn't used from j on, else the one whose path is used again behind k last.
 pub fn free_slot(
     p: &[u8],
     marks: &[u8; MARKS_BYTES],
     last: &[u8; USES_BYTES],
+    uses: &[u8; USES_BYTES],
     slots: u8,
     k: u8,
+    j: u8,
 ) -> u8
     requires { ⌜ readingOf (now p) ≡ found (countOf (now p)) ⌝ }
     requires { ⌜ 2 ≤ slots ⌝ }
@@ -173,7 +213,7 @@ pub fn free_slot(
     let mut slot = 1;
     while slot < slots {
         let path = path_in(marks, slot);
-        if last[path as usize] < k {
+        if uses[path as usize] < j {
             return slot;
         }
         slot += 1;

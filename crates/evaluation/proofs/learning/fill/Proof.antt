@@ -7,12 +7,12 @@ use mathlib.Core.Bool.{true}
 use Rattle.slots.specs.Marks.{isHeld, PathOf}
 use Rattle.evaluation.specs.Evaluated.{entry-long}
 use Rattle.slots.specs.Marks.{slots-apart}
-use Rattle.evaluation.specs.Rows.{otherPath, PathRead, in-range, bounded, test-node, goes-on-by, goes-on-rowed, slot-filled, slot-left}
+use Rattle.evaluation.specs.Rows.{otherPath, PathRead, in-range, bounded, test-node, goes-on-by, goes-on-held, slot-filled, slot-left}
 use Rattle.evaluation.proofs.learning.fill.Statement.{statement}
 use Rattle.evaluation.proofs.learning.fill.Tie as tie
 
-goes-on-held-requires : tie.Need-goes-on-held-requires
-goes-on-held-requires c κs = let s = c .before .before .before .before .before in entry-long (s .pre .0) (s .args .k) (s .pre .1 .1 .0 .0)
+paths-held-requires : tie.Need-paths-held-requires
+paths-held-requires c κs = let s = c .before .before .before .before .before in entry-long (s .pre .0) (s .args .k) (s .pre .1 .1 .0 .0)
 
 returns : tie.Need-returns
 returns c = let a = c .before .before .before .before .before .before .before .args in
@@ -48,7 +48,7 @@ on-by : (c : tie.After-path-kind)
 on-by c =
     let g = c .before .before .before in
     let paths = goes-on-by (read c) in
-    let held = goes-on-rowed (read c) (start c .args .marks .now) (sym (g .goes-on-held .ensures) ∙ not-false _ (c .before .before .if1 .left)) in
+    let held = goes-on-held (read c) (start c .args .marks .now) (sym (g .paths-held .ensures) ∙ not-false _ (c .before .before .if1 .left)) in
     ((paths .0, held .0), (paths .1, held .1))
 
 test-nodes-requires : tie.Need-test-nodes-requires
@@ -115,7 +115,7 @@ pub fill-spec : {M : Type 1} → statement M
 fill-spec =
     tie.close
     (tie.spec
-    goes-on-held-requires
+    paths-held-requires
     returns
     at-requires
     path-kind-requires

@@ -8,10 +8,10 @@ use Rattle.slots.proofs.uses.free_slot.Statement.{statement}
 use Rattle.slots.proofs.uses.free_slot.Tie as tie
 
 abbrev Inv-loop : tie.InvT-loop
-Inv-loop p marks last slots k slot₀ slot = (0 < slot) × (slot ≤ slots)
+Inv-loop p marks last uses slots k j slot₀ slot = (0 < slot) × (slot ≤ slots)
 
 abbrev μ-loop : tie.MeasureT-loop
-μ-loop p marks last slots k slot₀ slot = slots - slot
+μ-loop p marks last uses slots k j slot₀ slot = slots - slot
 
 loop-holds : tie.Need-loop-holds Inv-loop μ-loop
 loop-holds c = (omega arith, search needs)
