@@ -43,7 +43,7 @@ fn tag_of(marks: &[u8; MARKS_BYTES], slot: u8) -> u8
 }
 
 // The path whose rows a slot has.
-pub fn path_in(marks: &[u8; MARKS_BYTES], slot: u8) -> u8
+pub(crate) fn path_in(marks: &[u8; MARKS_BYTES], slot: u8) -> u8
     ensures { λ r. ⌜ r ≡ tagFor (tagOf (now (marks .entry)) slot) ⌝ }
 {
     END - tag_of(marks, slot)
