@@ -190,14 +190,10 @@ fn learn_again(
 )
     requires { ⌜ Lent (now p) (now table) (now alike) n ⌝ }
     requires { ⌜ Learned (now p) (now table) (now alike) n (now area) (now rows) (now marks) ⌝ }
-    requires { ⌜ SlotsFit (now rows) n slots ⌝ }
-    requires { ⌜ j < countOf (now p) ⌝ }
+    requires { ⌜ SlotsFit (now rows) n slots × (j < countOf (now p)) ⌝ }
     ensures { λ _. ⌜ Learned (now (p .entry)) (now (table .entry)) (now (alike .entry)) n (now (area .entry)) (now (rows .exit)) (now (marks .exit)) ⌝ }
 {
-    if (uses[j as usize] == 0) | is_held(marks, j) {
-        return;
-    }
-    if sort_at(p, j).is_node() {
+    if sort_at(p, j).is_node() | (is_held(marks, j) | (uses[j as usize] == 0)) {
         return;
     }
     learn_in_slot(
@@ -231,8 +227,7 @@ fn learn_needed(
 )
     requires { ⌜ Lent (now p) (now table) (now alike) n ⌝ }
     requires { ⌜ Learned (now p) (now table) (now alike) n (now area) (now rows) (now marks) ⌝ }
-    requires { ⌜ SlotsFit (now rows) n slots ⌝ }
-    requires { ⌜ k < countOf (now p) ⌝ }
+    requires { ⌜ SlotsFit (now rows) n slots × (k < countOf (now p)) ⌝ }
     ensures { λ _. ⌜ Learned (now (p .entry)) (now (table .entry)) (now (alike .entry)) n (now (area .entry)) (now (rows .exit)) (now (marks .exit)) ⌝ }
 {
     let mut uses = [0u8; USES_BYTES];
@@ -272,8 +267,7 @@ fn bring_back(
 )
     requires { ⌜ Lent (now p) (now table) (now alike) n ⌝ }
     requires { ⌜ Learned (now p) (now table) (now alike) n (now area) (now rows) (now marks) ⌝ }
-    requires { ⌜ SlotsFit (now rows) n slots ⌝ }
-    requires { ⌜ k < countOf (now p) ⌝ }
+    requires { ⌜ SlotsFit (now rows) n slots × (k < countOf (now p)) ⌝ }
     ensures { λ _. ⌜ Learned (now (p .entry)) (now (table .entry)) (now (alike .entry)) n (now (area .entry)) (now (rows .exit)) (now (marks .exit)) ⌝ }
 {
     if paths_held(p, marks, k) {
@@ -297,8 +291,7 @@ pub fn learn(
 )
     requires { ⌜ Lent (now p) (now table) (now alike) n ⌝ }
     requires { ⌜ Learned (now p) (now table) (now alike) n (now area) (now rows) (now marks) ⌝ }
-    requires { ⌜ SlotsFit (now rows) n slots ⌝ }
-    requires { ⌜ k < countOf (now p) ⌝ }
+    requires { ⌜ SlotsFit (now rows) n slots × (k < countOf (now p)) ⌝ }
     ensures { λ _. ⌜ Learned (now (p .entry)) (now (table .entry)) (now (alike .entry)) n (now (area .exit)) (now (rows .exit)) (now (marks .exit)) ⌝ }
 {
     if last[k as usize] == 0 {

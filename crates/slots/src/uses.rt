@@ -16,7 +16,7 @@ ghost use Rattle.pattern.specs.File.Reading.{countOf, readingOf};
 // For each reference an entry that the root reaches and that has it; 0 where there is none.
 pub const USES_BYTES: usize = END as usize + 1;
 
-// The last such entry, or the next behind one.
+// The last such entry, or the next from one on.
 enum Use {
     Last,
     Next,
@@ -82,16 +82,16 @@ pub fn last_uses(p: &[u8], last: &mut [u8; USES_BYTES])
     last[END as usize] = 0;
 }
 
-// The next uses behind entry k.
+// The next uses from entry k on.
 fn next_uses(p: &[u8], last: &[u8; USES_BYTES], k: u8, next: &mut [u8; USES_BYTES])
     requires { ⌜ readingOf (now p) ≡ found (countOf (now p)) ⌝ }
 {
-    let mut j = p[5] - 1;
+    let mut j = p[5];
     while k < j {
+        j -= 1;
         if last[j as usize] != 0 {
             refer_to_parts(p, next, Use::Next, j);
         }
-        j -= 1;
     }
 }
 
@@ -196,7 +196,7 @@ pub fn uses_again(p: &[u8], last: &[u8; USES_BYTES], k: u8, uses: &mut [u8; USES
 }
 
 // A slot for path entry j, which is learned for entry k, not that of the end of path: the first whose path
-// isn't used from j on, else the one whose path is used again behind k last.
+// isn't used from j on, else the one whose path is used from k on last.
 pub fn free_slot(
     p: &[u8],
     marks: &[u8; MARKS_BYTES],
