@@ -98,6 +98,7 @@ fn check_situations(complete: &Tally) {
         ("names", "met, names used"),
         ("edges", "edge record 1 refused 28"),
         ("rows", "more paths in use than slots"),
+        ("ends", "same by values of different nodes alone"),
         ("fresh names", "name by itself refused 22"),
         ("slots", "entries that share a slot read"),
         ("older models", "destination one short refused 29"),

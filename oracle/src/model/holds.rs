@@ -20,6 +20,15 @@ pub fn where_holds(pattern: &Pattern, model: &Model) -> Vec<Vec<bool>> {
 /// For each entry of the pattern, the set of nodes at which it holds (no node for a path entry).
 /// A model has 1 to 64 nodes, and its records are in range.
 pub fn node_sets(pattern: &Pattern, model: &Model) -> Vec<NodeSet> {
+    swept(pattern, model).holds
+}
+
+/// For each entry of the pattern, where it leads from each node of such a model (nowhere for a node entry).
+pub fn path_ends(pattern: &Pattern, model: &Model) -> Vec<[NodeSet; MAX_NODES]> {
+    swept(pattern, model).ends
+}
+
+fn swept<'a>(pattern: &Pattern, model: &'a Model) -> Sweep<'a> {
     let mut sweep = Sweep::new(model, pattern.entries.len());
     for entry in &pattern.entries {
         let (holds, ends) = if entry.is_path() {
@@ -30,7 +39,7 @@ pub fn node_sets(pattern: &Pattern, model: &Model) -> Vec<NodeSet> {
         sweep.holds.push(holds);
         sweep.ends.push(ends);
     }
-    sweep.holds
+    sweep
 }
 
 /// The entries met so far, and the model in a form that answers quickly.

@@ -1,5 +1,6 @@
 //! Document 01's limits, reached exactly and overstepped by one: which of them an input shows.
 
+use super::ends::Led;
 use super::fresh::{Brought, Had};
 use super::rows::Kept;
 use crate::generate::input::{Input, Operation};
@@ -19,6 +20,7 @@ pub struct Judged<'a> {
     pub(super) had: Option<Had>,
     pub(super) brought: Brought,
     pub(super) paths: Option<Kept>,
+    pub(super) led: Option<Led>,
 }
 
 pub const LIMITS: [Limit; 53] = [
@@ -89,7 +91,9 @@ fn brings(step: &[u8], name: u8) -> bool {
 impl<'a> Judged<'a> {
     pub fn new(input: &'a Input, finding: Finding) -> Judged<'a> {
         let (had, brought) = (Had::of(input, finding), Brought::of(input, finding));
-        Judged { input, finding, had, brought, paths: Kept::of(input, finding) }
+        let paths = Kept::of(input, finding);
+        let led = paths.as_ref().map(|kept| Led::of(input, kept));
+        Judged { input, finding, had, brought, paths, led }
     }
 
     pub(super) fn refused(&self, number: u16) -> bool {

@@ -9,7 +9,7 @@ use oracle::finding::Finding;
 use oracle::pattern::{self, Entry, MAX_CHANNEL, Path, Pattern};
 use std::iter::zip;
 
-pub const ROWS: [Limit; 34] = [
+pub const ROWS: [Limit; 44] = [
     ("small judgement", |it| it.kept(|kept| kept.is_small())),
     ("small judgement without room for another path", |it| {
         it.kept(|kept| {
@@ -29,10 +29,38 @@ pub const ROWS: [Limit; 34] = [
         it.kept(|kept| kept.paths() >= kept.slots && kept.reached < kept.slots)
     }),
     ("more paths in use than slots", |it| it.kept(|kept| kept.in_use >= kept.slots)),
-    ("path given the slot of one that isn't used any longer", |it| it.given(Given::Unused)),
-    ("path given the slot of one that is used again", |it| it.given(Given::Taken)),
-    ("path given the slot of the one that it goes on by", |it| it.given(Given::OfRest)),
+    ("path given the slot of one that isn't used any longer", |it| {
+        it.given(|slot| slot.given == Given::Unused)
+    }),
+    ("path given the slot of the one that is used again last", |it| {
+        it.given(|slot| slot.given == Given::Taken)
+    }),
+    ("path given the slot of one of two that are used again last", |it| {
+        it.given(|slot| slot.given == Given::Taken && slot.of_two)
+    }),
+    ("path given the slot of the one that it goes on by", |it| it.given(|slot| slot.given == Given::OfRest)),
+    ("first slot taken from a path that is used again", |it| {
+        it.given(|slot| slot.given == Given::Taken && slot.number == 1)
+    }),
+    ("last slot taken from a path that is used again", |it| {
+        it.kept(|kept| kept.given(|slot| slot.given == Given::Taken && slot.number + 1 == kept.slots))
+    }),
+    ("slot taken for a path that goes on by one that isn't used behind it", |it| {
+        it.given(|slot| slot.given == Given::Taken && slot.last_of_rest)
+    }),
+    ("path that had rows when another lost its own compared by them", |it| it.kept(Kept::keeps_another)),
     ("path with rows used after more others than slots", |it| it.kept(Kept::keeps_an_old_path)),
+    ("path passed over, as one that it goes on by lost its rows", |it| {
+        it.learned(|of| of.is_passed_over() && of.ends.contains(&Ends::Lost))
+    }),
+    ("path passed over, as one that it goes on by never had rows", |it| {
+        it.learned(|of| of.is_passed_over() && of.ends.contains(&Ends::Never))
+    }),
+    ("path passed over where a slot is free", |it| it.learned(|of| of.is_passed_over() && of.has_free_slot)),
+    ("path passed over where all slots are in use", |it| {
+        it.learned(|of| of.is_passed_over() && !of.has_free_slot)
+    }),
+    ("path given rows after another was passed over", |it| it.kept(Kept::goes_on_after_passing_over)),
     ("path that lost its rows compared, met", |it| {
         it.compared(|ends| ends.contains(&Ends::Lost)) && it.finding != Finding::Unmet
     }),
@@ -58,13 +86,19 @@ pub const ROWS: [Limit; 34] = [
     ("end of path compared with itself", |it| it.compared(|ends| ends == [Ends::Own; 2])),
     ("path without rows that leads through a test compared", |it| it.kept(Kept::sweeps_a_test)),
     ("test of a comparison of a path without rows", |it| it.kept(Kept::tests_a_swept_comparison)),
-    ("step before a path without rows", |it| it.built(|entry| matches!(entry, Entry::Step(..)))),
-    ("jump before a path without rows", |it| it.built(|entry| matches!(entry, Entry::Jump(..)))),
-    ("test before a path without rows", |it| it.built(|entry| matches!(entry, Entry::Test(..)))),
-    ("fork of a path with rows and one without", |it| {
-        it.learned(|of| of.is_fork() && of.ends.contains(&Ends::Rows) && of.ends.iter().any(Ends::are_swept))
+    ("step before a path without rows passed over", |it| {
+        it.passed_over(|entry| matches!(entry, Entry::Step(..)))
     }),
-    ("fork of two paths without rows", |it| {
+    ("jump before a path without rows passed over", |it| {
+        it.passed_over(|entry| matches!(entry, Entry::Jump(..)))
+    }),
+    ("test before a path without rows passed over", |it| {
+        it.passed_over(|entry| matches!(entry, Entry::Test(..)))
+    }),
+    ("fork of a path with rows and one without passed over", |it| {
+        it.learned(|of| of.is_fork() && of.ends.contains(&Ends::Rows) && of.is_passed_over())
+    }),
+    ("fork of two paths without rows passed over", |it| {
         it.learned(|of| of.is_fork() && of.ends.iter().all(Ends::are_swept) && of.paths[0] != of.paths[1])
     }),
     ("slot given away of a path that an entry uses which isn't reached", |it| {
@@ -104,10 +138,22 @@ enum Given {
     Nobodys,
     /// That of a path that isn't used any longer.
     Unused,
-    /// That of a path that is used again.
+    /// That of the path that is used again last, by which it doesn't go on.
     Taken,
-    /// That of a path that it goes on by.
+    /// That of the path that is used again last, by which it goes on, so that neither has rows.
     OfRest,
+}
+
+/// The slot that a path is given.
+struct Slot {
+    number: usize,
+    given: Given,
+    /// The path that had it.
+    holder: Option<usize>,
+    /// Whether another path is used again by the same entry as that one.
+    of_two: bool,
+    /// Whether the path goes on by one that no entry behind it uses.
+    last_of_rest: bool,
 }
 
 /// An entry that the root reaches, when it is learned.
@@ -117,8 +163,10 @@ struct Learned {
     /// The paths that it compares or goes on by, and how their ends are had.
     paths: Vec<Path>,
     ends: Vec<Ends>,
-    /// Of a path, whose slot it is given, and the path that had it.
-    given: Option<(Given, Option<usize>)>,
+    /// Whether a slot is free.
+    has_free_slot: bool,
+    /// The slot that it is given, if it is a path that isn't passed over.
+    slot: Option<Slot>,
 }
 
 impl Learned {
@@ -128,6 +176,26 @@ impl Learned {
 
     fn is_fork(&self) -> bool {
         matches!(self.entry, Entry::Fork(..))
+    }
+
+    fn is_passed_over(&self) -> bool {
+        self.entry.is_path() && self.slot.is_none()
+    }
+
+    /// Whether it is given a slot and keeps it.
+    fn has_rows(&self) -> bool {
+        self.slot.as_ref().is_some_and(|slot| slot.given != Given::OfRest)
+    }
+
+    /// Whether another path, which is used again, loses its rows.
+    fn takes(&self) -> bool {
+        self.slot.as_ref().is_some_and(|slot| matches!(slot.given, Given::Taken | Given::OfRest))
+    }
+
+    /// The paths that it refers to and that have rows.
+    fn with_rows(&self) -> impl Iterator<Item = usize> {
+        let with_rows = zip(&self.paths, &self.ends).filter(|(_, ends)| **ends == Ends::Rows);
+        with_rows.filter_map(|(path, _)| *path)
     }
 }
 
@@ -170,17 +238,39 @@ impl Kept {
                 _ => Ends::Never,
             };
             let ends = paths.iter().map(ends).collect();
-            let given = entry.is_path().then(|| learn(&mut slots, number, &paths));
+            let has_free_slot = slots.free(number).is_some();
+            let learns = entry.is_path() && !slots.pass_over(&entry);
+            let slot = learns.then(|| learn(&mut slots, number, &paths));
             had_rows[number] = slots.hold(Some(number));
             if entry.is_path() {
                 paths_learned.retain(|&path| slots.is_used(path, number));
                 paths_learned.push(number);
                 in_use = in_use.max(paths_learned.len());
             }
-            learned.push(Learned { number, entry, paths, ends, given });
+            learned.push(Learned { number, entry, paths, ends, has_free_slot, slot });
         }
         let reached = paths_reached(&pattern);
         Kept { pattern, nodes, slots: slots.count(), reached, in_use, learned }
+    }
+
+    pub fn pattern(&self) -> &Pattern {
+        &self.pattern
+    }
+
+    /// The axes of the steps that have rows.
+    pub fn stepped(&self) -> Vec<usize> {
+        let with_rows = self.learned.iter().filter(|of| of.has_rows());
+        let axis = |of: &Learned| match of.entry {
+            Entry::Step(axis, _) => Some(axis.into()),
+            _ => None,
+        };
+        with_rows.filter_map(axis).collect()
+    }
+
+    /// The comparisons that the root reaches, and whether one of the paths has no rows.
+    pub fn comparisons(&self) -> impl Iterator<Item = (&Entry, bool)> {
+        let compared = self.learned.iter().filter(|of| of.compares(|_| true));
+        compared.map(|of| (&of.entry, of.ends.iter().any(Ends::are_swept)))
     }
 
     fn is_small(&self) -> bool {
@@ -195,14 +285,27 @@ impl Kept {
     /// Whether a path is used that still has its rows, after as many others were learned as there are slots.
     fn keeps_an_old_path(&self) -> bool {
         let since = |path: usize, of: &Learned| {
-            let others = self.learned.iter().filter(|other| other.given.is_some());
+            let others = self.learned.iter().filter(|other| other.slot.is_some());
             others.filter(|other| (path + 1..of.number).contains(&other.number)).count()
         };
         self.reached > self.slots
-            && self.learned.iter().any(|of| {
-                let with_rows = zip(&of.paths, &of.ends).filter(|(_, ends)| **ends == Ends::Rows);
-                with_rows.filter_map(|(path, _)| *path).any(|path| since(path, of) >= self.slots)
-            })
+            && self.learned.iter().any(|of| of.with_rows().any(|path| since(path, of) >= self.slots))
+    }
+
+    /// Whether a path is compared by its rows that it had when another, which was used again, lost its own.
+    fn keeps_another(&self) -> bool {
+        let Some(takes) = self.learned.iter().find(|of| of.takes()) else { return false };
+        let mut behind = self.learned.iter().filter(|of| of.number > takes.number);
+        behind.any(|of| of.compares(|_| true) && of.with_rows().any(|path| path < takes.number))
+    }
+
+    fn goes_on_after_passing_over(&self) -> bool {
+        let mut learned = self.learned.iter();
+        learned.any(Learned::is_passed_over) && learned.any(Learned::has_rows)
+    }
+
+    fn given(&self, shows: impl Fn(&Slot) -> bool) -> bool {
+        self.learned.iter().filter_map(|of| of.slot.as_ref()).any(shows)
     }
 
     /// Whether a path is compared that has no rows and leads through a test.
@@ -237,9 +340,9 @@ impl Kept {
         let uses_later = |path: usize, from: usize| {
             self.pattern.entries[from..].iter().any(|entry| paths_of(entry).contains(&Some(path)))
         };
-        self.learned
-            .iter()
-            .any(|of| matches!(of.given, Some((Given::Unused, Some(path))) if uses_later(path, of.number)))
+        let unused = |slot: &Slot| slot.holder.filter(|_| slot.given == Given::Unused);
+        let forgotten = |of: &Learned| of.slot.as_ref().and_then(unused);
+        self.learned.iter().any(|of| forgotten(of).is_some_and(|path| uses_later(path, of.number)))
     }
 
     fn has_an_unreached_comparison(&self) -> bool {
@@ -257,21 +360,21 @@ impl Kept {
     }
 }
 
-/// Learns a path entry that goes on by these paths: whose slot it is given.
-fn learn(slots: &mut Slots, entry: usize, rests: &[Path]) -> (Given, Option<usize>) {
-    let slot = slots.next(entry);
-    let holder = slots.holder(slot);
+/// Learns a path entry that goes on by these paths, which have rows: the slot that it is given.
+fn learn(slots: &mut Slots, entry: usize, rests: &[Path]) -> Slot {
+    let number = slots.next(entry);
+    let holder = slots.holder(number);
     let given = match holder {
         None => Given::Nobodys,
+        Some(path) if !slots.is_used(path, entry) => Given::Unused,
         holder if rests.contains(&holder) => Given::OfRest,
-        Some(path) if slots.is_used(path, entry) => Given::Taken,
-        _ => Given::Unused,
+        _ => Given::Taken,
     };
-    slots.give(slot, None);
-    if rests.iter().all(|rest| slots.hold(*rest)) {
-        slots.give(slot, Some(entry));
-    }
-    (given, holder)
+    let next_use = |path: usize| slots.next_use(path, entry);
+    let as_late = slots.holders().filter(|&path| holder.map(next_use) == Some(next_use(path))).count();
+    let last_of_rest = rests.iter().flatten().any(|&rest| next_use(rest).is_none());
+    slots.give(number, (given != Given::OfRest).then_some(entry));
+    Slot { number, given, holder, of_two: as_late == 2, last_of_rest }
 }
 
 impl Judged<'_> {
@@ -289,13 +392,13 @@ impl Judged<'_> {
         self.learned(|of| of.compares(&shows))
     }
 
-    /// Whether such a path was built on one without rows.
-    fn built(&self, is_such: impl Fn(&Entry) -> bool) -> bool {
-        self.learned(|of| is_such(&of.entry) && of.ends.iter().any(Ends::are_swept))
+    /// Whether such a path was passed over.
+    fn passed_over(&self, is_such: impl Fn(&Entry) -> bool) -> bool {
+        self.learned(|of| is_such(&of.entry) && of.is_passed_over())
     }
 
-    fn given(&self, wanted: Given) -> bool {
-        self.learned(|of| of.given.is_some_and(|(given, _)| given == wanted))
+    fn given(&self, shows: impl Fn(&Slot) -> bool) -> bool {
+        self.kept(|kept| kept.given(&shows))
     }
 
     /// Whether values were compared of which one shows it, told those of its bucket that earlier nodes have.

@@ -1,6 +1,7 @@
 //! The situations that a run must see, table by table.
 
 use super::edges::EDGES;
+use super::ends::ENDS;
 use super::fresh::FRESH;
 use super::limits::{LIMITS, Limit};
 use super::names::NAMES;
@@ -22,7 +23,7 @@ const READING: &[Operation] = &[Operation::Reading];
 const MODEL: &[Operation] = &[Operation::Model];
 const TABLEAU: &[Operation] = &[Operation::Tableau];
 
-pub const SITUATIONS: [Situations; 8] = [
+pub const SITUATIONS: [Situations; 9] = [
     Situations {
         heading: "limits",
         sort: "limit",
@@ -46,6 +47,12 @@ pub const SITUATIONS: [Situations; 8] = [
         sort: "rows",
         of: MODEL,
         shown: &ROWS,
+    },
+    Situations {
+        heading: "neighbouring nodes, and ends of two paths",
+        sort: "ends",
+        of: MODEL,
+        shown: &ENDS,
     },
     Situations { heading: "start names and fresh names", sort: "fresh names", of: TABLEAU, shown: &FRESH },
     Situations {

@@ -19,18 +19,47 @@ pub fn random(random: &mut Random, pattern: &Pattern) -> Model {
     of_size(random, pattern, vocabulary, [nodes, edges])
 }
 
-/// A model of so many nodes, and of so many edges or fewer.
+/// A model of so many nodes, and of so many edges or fewer, or of edges in runs.
 pub fn of_size(
     random: &mut Random,
     pattern: &Pattern,
     vocabulary: Vocabulary,
     [nodes, edges]: [usize; 2],
 ) -> Model {
+    let edges = if random.once_in(4) {
+        in_runs(random, vocabulary, nodes)
+    } else {
+        rising((0..edges).map(|_| edge(random, vocabulary, nodes)))
+    };
     Model {
         nodes: (0..nodes).map(|_| node(random)).collect(),
         names: names(random, pattern, vocabulary, nodes),
-        edges: rising((0..edges).map(|_| edge(random, vocabulary, nodes))),
+        edges,
     }
+}
+
+/// The most nodes that one leads to on an axis, in runs: 64 nodes of eight axes have 4,096 edges then.
+const MOST_LED: usize = 8;
+
+/// Edges by which neighbouring nodes mostly lead to the same nodes on an axis: of few sets of nodes one is taken, for
+/// some nodes or for all.
+fn in_runs(random: &mut Random, vocabulary: Vocabulary, nodes: usize) -> Vec<Edge> {
+    let mut edges = Vec::new();
+    let often = random.pick(&[2, 4, 16, 4096]);
+    for axis in 0..vocabulary.axes as u8 {
+        let sets: [Vec<u8>; 3] = [(); 3].map(|()| {
+            let led = random.below(MOST_LED + 1);
+            (0..led).map(|_| random.below(nodes) as u8).collect()
+        });
+        let mut set = 0;
+        for from in 0..nodes as u8 {
+            if random.once_in(often) {
+                set = random.below(sets.len());
+            }
+            edges.extend(sets[set].iter().map(|&to| (from, axis, to)));
+        }
+    }
+    rising(edges.into_iter())
 }
 
 /// A node whose values are often those of other nodes, or share a bucket with them.
@@ -83,8 +112,8 @@ mod tests {
 
     #[test]
     fn buckets_are_those_of_the_proved_judgement() {
-        let tables = include_str!("../../../crates/model_tables/src/lib.rt");
-        assert!(tables.contains(&format!("const BUCKETS: u16 = {BUCKETS};")));
-        assert!(tables.contains("value % BUCKETS"));
+        let values = include_str!("../../../crates/model_tables/src/values.rt");
+        assert!(values.contains(&format!("const BUCKETS: u16 = {BUCKETS};")));
+        assert!(values.contains("value % BUCKETS"));
     }
 }

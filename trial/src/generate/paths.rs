@@ -1,4 +1,5 @@
-//! Patterns of many paths, which wait for the time when all are there to be used once more.
+//! Patterns of many paths, which wait for the time when all are there to be used once more. Of those that are used last
+//! some have lost their rows by then.
 
 use super::patterns::Vocabulary;
 use super::rows::{FEW, MANY, ROW, slot_count};
@@ -24,7 +25,7 @@ impl Size {
         let any =
             Size { nodes: random.between(1, 64), passed: 0, waiting: random.between(8, 80), more: true };
         match random.below(12) {
-            0..7 => Size { nodes: random.between(60, 64), waiting: random.between(96, 102), ..any },
+            0..7 => Size { nodes: random.between(60, 64), waiting: random.between(96, 108), ..any },
             7..9 => {
                 let nodes = random.pick(&[8, 11, 16, 23, 32, 64]);
                 Size { nodes, waiting: FEW / (ROW * nodes) - random.below(2), more: false, ..any }
@@ -36,12 +37,32 @@ impl Size {
     }
 }
 
+/// In which order the paths that wait are used, and nodes joined, of which the root comes to the last first.
+#[derive(Clone, Copy, Debug, PartialEq, Eq)]
+enum Order {
+    Any,
+    OldestLast,
+    NewestLast,
+}
+
+impl Order {
+    /// Which of so many, one or more, is next.
+    fn next(self, random: &mut Random, count: usize) -> usize {
+        match self {
+            Order::Any => random.below(count),
+            Order::OldestLast => count - 1,
+            Order::NewestLast => 0,
+        }
+    }
+}
+
 /// A pattern that begins with so many paths and uses each once more. Mostly the root reaches all of them.
 pub fn many(random: &mut Random, vocabulary: Vocabulary, size: Size) -> Pattern {
     let mut making = Making {
-        random,
         vocabulary,
         slots: slot_count(MANY, size.nodes) - 1,
+        order: random.pick(&[Order::Any, Order::OldestLast, Order::OldestLast, Order::NewestLast]),
+        random,
         entries: Vec::new(),
         nodes: Vec::new(),
         paths: Vec::new(),
@@ -49,11 +70,16 @@ pub fn many(random: &mut Random, vocabulary: Vocabulary, size: Size) -> Pattern 
         due: Vec::new(),
     };
     making.begin(size);
-    if size.more {
+    if size.more && !making.random.once_in(4) {
         making.use_again();
     }
-    let forks = size.more && !making.random.once_in(3);
-    making.join(forks);
+    let forks = size.more && making.random.once_in(2);
+    making.use_due(forks);
+    if size.more {
+        making.use_again();
+        making.use_due(false);
+    }
+    making.join();
     if making.random.once_in(8) {
         making.cut();
     }
@@ -66,6 +92,8 @@ struct Making<'r> {
     vocabulary: Vocabulary,
     /// How many paths have rows at once.
     slots: usize,
+    /// In which order the paths that are due are used.
+    order: Order,
     entries: Vec<Entry>,
     nodes: Vec<usize>,
     paths: Vec<usize>,
@@ -92,11 +120,13 @@ impl Making<'_> {
         }
     }
 
-    /// Adds entries on paths of any age, as long as there is room beside those that use the paths that are due.
+    /// Adds entries on paths of any age, as long as there is room beside those that use the paths that are due and some
+    /// that deny nodes.
     fn use_again(&mut self) {
-        while self.room() > 5 && !self.random.once_in(32) {
+        let denying = self.random.between(6, 30);
+        while self.room() > denying && !self.random.once_in(32) {
             let old = self.old();
-            match self.random.below(3) {
+            match self.random.below(4) {
                 0 => {
                     let others = [old, None, self.old()];
                     let other = self.random.pick(&others);
@@ -104,12 +134,19 @@ impl Making<'_> {
                     continue;
                 }
                 1 => self.add_path(old),
+                2 => {
+                    let few = self.paths.len().min(4);
+                    let rest = self.random.pick(&self.paths[self.paths.len() - few..]);
+                    self.add_path(Some(rest));
+                }
                 _ => {
                     let axis = self.axis();
-                    self.add(Entry::Step(axis, self.next_to_lose()));
+                    self.add(Entry::Step(axis, self.next_to_lose().or(old)));
                 }
             }
-            let (new, other) = (self.paths.last().copied(), self.rest());
+            let new = self.paths.last().copied();
+            let others = [None, self.rest()];
+            let other = self.random.pick(&others);
             if !self.random.once_in(4) {
                 self.compare(new, other);
             }
@@ -119,8 +156,8 @@ impl Making<'_> {
         }
     }
 
-    /// Uses the paths that are due, in comparisons or in one fork of all, and joins the nodes, until one is left.
-    fn join(&mut self, forks: bool) {
+    /// Uses the paths that are due, in comparisons or in one fork of all.
+    fn use_due(&mut self, forks: bool) {
         while forks && self.due.len() > 1 {
             let (one, other) = (self.take_due(), self.take_due());
             self.add(Entry::Fork(one, other));
@@ -129,11 +166,19 @@ impl Making<'_> {
             let (one, other) = (self.take_due(), self.take_due());
             self.compare(one, other);
         }
+    }
+
+    /// Joins the nodes until one is left.
+    fn join(&mut self) {
+        let order = self.random.pick(&[Order::Any, Order::OldestLast, Order::NewestLast]);
         while self.loose.len() > 1 {
-            let (one, other) = (self.take_loose(), self.take_loose());
+            let (one, other) = (self.take_loose(order), self.take_loose(order));
             self.add(Entry::Both(one, other));
-            if self.room() > 0 && self.random.below(4) < 3 {
+            if self.random.below(self.loose.len()) < self.room() && self.random.below(4) < 3 {
                 self.add(Entry::Not(self.entries.len() - 1));
+            }
+            if order == Order::NewestLast {
+                self.loose.rotate_right(1);
             }
         }
     }
@@ -187,15 +232,19 @@ impl Making<'_> {
         self.add(Entry::Compare(comparison, channel, one, other));
     }
 
-    /// Any path, mostly one of the first, which lose their rows before others do.
+    /// Any path, mostly one of the first, which lose their rows if they are used last.
     fn old(&mut self) -> Path {
         let few = if self.random.once_in(4) { self.paths.len() } else { self.paths.len().min(16) };
         Some(self.random.pick(&self.paths[..few]))
     }
 
-    /// The path whose slot the next path takes, if all are in use and none was taken before.
+    /// The path whose slot the next path takes, if all are in use and none is used meanwhile.
     fn next_to_lose(&self) -> Path {
-        self.paths.get(self.entries.len() % self.slots).copied()
+        let lost = self.paths.len().saturating_sub(self.slots);
+        match self.order {
+            Order::NewestLast => self.due.last().copied(),
+            _ => self.due.get(lost).copied(),
+        }
     }
 
     fn axis(&mut self) -> u8 {
@@ -219,10 +268,11 @@ impl Making<'_> {
 
     /// A path that is due, or the end if none is.
     fn take_due(&mut self) -> Path {
-        (!self.due.is_empty()).then(|| self.due.swap_remove(self.random.below(self.due.len())))
+        let count = self.due.len();
+        (count > 0).then(|| self.due.remove(self.order.next(self.random, count)))
     }
 
-    fn take_loose(&mut self) -> usize {
-        self.loose.swap_remove(self.random.below(self.loose.len()))
+    fn take_loose(&mut self, order: Order) -> usize {
+        self.loose.remove(order.next(self.random, self.loose.len()))
     }
 }

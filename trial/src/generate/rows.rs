@@ -1,7 +1,7 @@
 //! Slots for the rows of paths. The proved judgement of a model keeps the ends of the paths that the root reaches,
-//! from every node, as rows in slots, as many as there is room for; when a path finds none free another loses its
-//! own, and what isn't kept is computed anew. What is kept changes no finding. It is said here once more, so that
-//! inputs are made, counted and judged wrongly in which paths lose their rows.
+//! from every node, as rows in slots, as many as there is room for; when a path finds none free, the one that is used
+//! again last loses its own, and what isn't kept is computed anew. What is kept changes no finding. It is said here
+//! once more, so that inputs are made, counted and judged wrongly in which paths lose their rows.
 
 use oracle::pattern::{Entry, Path, Pattern};
 use std::ops::Range;
@@ -18,8 +18,8 @@ pub const MOST: usize = 255;
 
 /// The slots while the entries that the root reaches are learned in their order.
 pub struct Slots {
-    /// By entry, the last of those that refer to it and that the root reaches.
-    last: Vec<Option<usize>>,
+    /// By entry, those that refer to it and that the root reaches, in their order.
+    uses: Vec<Vec<usize>>,
     /// By slot, the path entry whose rows it has.
     holders: Vec<Option<usize>>,
 }
@@ -28,7 +28,7 @@ impl Slots {
     /// The slots for a pattern in a model of so many nodes, before any entry is learned.
     pub fn new(pattern: &Pattern, nodes: usize) -> Slots {
         let slots = slot_count(bytes(paths_reached(pattern), nodes), nodes);
-        Slots { last: last_uses(pattern), holders: vec![None; slots] }
+        Slots { uses: uses(pattern), holders: vec![None; slots] }
     }
 
     pub fn count(&self) -> usize {
@@ -54,16 +54,37 @@ impl Slots {
         self.holders[slot]
     }
 
-    /// Whether an entry from this one on refers to the path.
-    pub fn is_used(&self, path: usize, from: usize) -> bool {
-        self.last[path] >= Some(from)
+    /// The paths that have rows.
+    pub fn holders(&self) -> impl Iterator<Item = usize> {
+        self.given().filter_map(|slot| self.holders[slot])
     }
 
-    /// The slot for a path entry: the first that has no path's rows or those of a path that isn't used from here
-    /// on, else one by the number of the entry.
+    /// Whether an entry from this one on refers to the path.
+    pub fn is_used(&self, path: usize, from: usize) -> bool {
+        self.uses[path].last() >= Some(&from)
+    }
+
+    /// The next entry behind this one that refers to the path.
+    pub fn next_use(&self, path: usize, behind: usize) -> Option<usize> {
+        self.uses[path].iter().copied().find(|&entry| entry > behind)
+    }
+
+    /// Whether a path entry is passed over, as one of the paths that it goes on by has no rows.
+    pub fn pass_over(&self, entry: &Entry) -> bool {
+        !paths_of(entry).into_iter().all(|path| self.hold(path))
+    }
+
+    /// The first slot that has no path's rows or those of a path that isn't used from this entry on.
+    pub fn free(&self, entry: usize) -> Option<usize> {
+        self.given().find(|&slot| !self.holders[slot].is_some_and(|path| self.is_used(path, entry)))
+    }
+
+    /// The slot for a path entry: a free one, else that of the path whose next use is the latest, of two the lower. No
+    /// use is before all others.
     pub fn next(&self, entry: usize) -> usize {
-        let is_free = |&slot: &usize| !self.holders[slot].is_some_and(|path| self.is_used(path, entry));
-        self.given().find(is_free).unwrap_or(entry % self.given().len() + 1)
+        let next_use = |slot: &usize| self.holders[*slot].and_then(|path| self.next_use(path, entry));
+        let latest = || self.given().rev().max_by_key(next_use).expect("there are two slots or more");
+        self.free(entry).unwrap_or_else(latest)
     }
 
     /// The slot is given to a path, or has nobody's rows.
@@ -88,13 +109,13 @@ pub fn paths_reached(pattern: &Pattern) -> usize {
     entries.filter(|(entry, reached)| *reached && entry.is_path()).count()
 }
 
-fn last_uses(pattern: &Pattern) -> Vec<Option<usize>> {
-    let mut last = vec![None; pattern.entries.len()];
+fn uses(pattern: &Pattern) -> Vec<Vec<usize>> {
+    let mut uses = vec![Vec::new(); pattern.entries.len()];
     let entries = pattern.entries.iter().zip(pattern.reached()).enumerate();
     for (number, (entry, _)) in entries.filter(|(_, (_, reached))| *reached) {
-        entry.references().for_each(|referred| last[referred] = Some(number));
+        entry.references().for_each(|referred| uses[referred].push(number));
     }
-    last
+    uses
 }
 
 /// The paths that an entry refers to: those that it compares or goes on by.
@@ -108,12 +129,85 @@ pub fn paths_of(entry: &Entry) -> Vec<Path> {
 
 #[cfg(test)]
 mod tests {
+    use super::*;
+    use oracle::pattern::Comparison;
+
+    /// Texts that say the rule, of which each stands once.
+    fn assert_says(source: &str, texts: &[&str]) {
+        for text in texts {
+            assert_eq!(source.matches(text).count(), 1, "{text}");
+        }
+    }
+
     #[test]
     fn slots_are_those_of_the_proved_judgement() {
+        let root = include_str!("../../../crates/evaluation/src/root.rt");
+        assert_says(
+            root,
+            &[
+                &format!("const FEW_ROWS: usize = {FEW};"),
+                &format!("const MANY_ROWS: usize = {MANY};"),
+                "path_count(p, &last) as usize + 1",
+                "(slots * (n as usize)) <= FEW_ROWS",
+            ],
+        );
         let learning = include_str!("../../../crates/evaluation/src/learning.rt");
-        assert!(learning.contains("const FEW_ROWS: usize = 4096;"));
-        assert!(learning.contains("const MANY_ROWS: usize = 49152;"));
-        let uses = include_str!("../../../crates/evaluation/src/uses.rt");
-        assert!(uses.contains("k % (slots - 1) + 1"));
+        assert_says(
+            learning,
+            &[
+                "is_held(marks, other_path(path, e.x, e.y)) & is_held(marks, e.y)",
+                "if !goes_on_held(p, marks, k) {\n        return;",
+                "free_slot(p, marks, last, slots, k)",
+            ],
+        );
+        let uses = include_str!("../../../crates/slots/src/uses.rt");
+        assert_says(
+            uses,
+            &[
+                "if last[path as usize] < k {\n            return slot;",
+                "taken_slot(p, marks, last, slots, k)\n",
+                "let mut j = p[5] - 1;\n    while k < j {",
+                "if next[first as usize] < next[second as usize] {\n        return t;",
+                "let mut latest = 1;\n    let mut slot = 2;",
+                "latest = later_slot(marks, next, latest, slot);",
+            ],
+        );
+        let marks = include_str!("../../../crates/slots/src/marks.rt");
+        assert_says(marks, &[&format!("if {MOST} < slots {{\n        return {MOST};")]);
+    }
+
+    /// 96 paths, compared two by two, the first two last.
+    fn more_than_are_kept() -> Pattern {
+        let mut entries: Vec<Entry> = (0..96).map(|name| Entry::Jump(name, None)).collect();
+        let compare = |one: usize| Entry::Compare(Comparison::Same, 0, Some(one), Some(one + 1));
+        entries.extend((2..96).step_by(2).chain([0]).map(compare));
+        for node in 96..entries.len() - 1 {
+            let last = entries.len() - 1;
+            entries.push(Entry::Both(node, last));
+        }
+        Pattern { entries }
+    }
+
+    #[test]
+    fn the_path_that_is_used_again_last_gives_its_slot_of_two_the_lower() {
+        let pattern = more_than_are_kept();
+        let mut slots = Slots::new(&pattern, 64);
+        assert_eq!(slots.count(), 96);
+        for path in 0..95 {
+            assert_eq!(slots.free(path), Some(path + 1));
+            assert_eq!(slots.next(path), path + 1);
+            slots.give(path + 1, Some(path));
+        }
+        assert_eq!(slots.free(95), None);
+        let last = slots.next_use(0, 95);
+        assert_eq!(last, slots.next_use(1, 95));
+        assert!((2..95).all(|path| slots.next_use(path, 95) < last));
+        assert_eq!(slots.next(95), 1);
+        slots.give(1, Some(95));
+        assert_eq!(slots.next(95), 2);
+        assert!(slots.pass_over(&Entry::Step(0, Some(0))));
+        assert!(slots.pass_over(&Entry::Fork(Some(1), Some(0))));
+        assert!(!slots.pass_over(&Entry::Fork(Some(1), None)));
+        assert_eq!(slots.free(last.expect("it is used again") + 1), Some(1));
     }
 }

@@ -19,10 +19,18 @@ pub struct Keeper {
     empties: bool,
     /// The slot whose rows it takes for a path that another goes on by.
     built_on: fn(&Judge, Path) -> Option<usize>,
-    /// Whether a path has its slot that couldn't be filled.
+    /// Whether a path that is passed over is given a slot, which isn't filled.
     gives_anyway: bool,
-    /// Where the first path leads from a node that is compared with the second.
-    compared: fn(&Judge, [Path; 2], usize) -> Nodes,
+    /// The entry that has the slot which was filled for this one.
+    holder: fn(usize) -> usize,
+    /// Whether a node has the row of the node before it, for a step on an axis.
+    leads_alike: fn(&Judge, u8, usize) -> bool,
+    /// The nodes with which the union of rows of a slot is complete.
+    whole: fn(&Judge, usize) -> Nodes,
+    /// Where two paths that are compared lead from a node.
+    compared: fn(&Judge, [Path; 2], usize) -> [Nodes; 2],
+    /// Whether of two sets of nodes some compare so on a channel.
+    some_pair: fn(&Judge, Comparison, u8, [Nodes; 2]) -> bool,
     /// Which nodes pass a test that holds at the others, on a path without rows.
     passing: fn(Nodes, Nodes) -> Nodes,
     /// Where a fork leads, on a path without rows.
@@ -34,41 +42,143 @@ pub const RIGHT: Keeper = Keeper {
     empties: true,
     built_on: |judge, path| judge.slots.of(path),
     gives_anyway: false,
-    compared: |judge, [path, _], node| judge.ends(path, node),
+    holder: |entry| entry,
+    leads_alike: |judge, axis, node| judge.neighbours(axis, node).is_some_and(|[before, own]| before == own),
+    whole: |judge, slot| judge.rows[slot].iter().fold(0, |union, row| union | row),
+    compared: |judge, paths, node| paths.map(|path| judge.ends(path, node)),
+    some_pair: |judge, comparison, channel, ends| judge.some_pair(comparison, channel, ends),
     passing: |nodes, holds| nodes & holds,
     sides: |alpha, beta| [alpha, beta],
 };
 
 pub type Mistake = (&'static str, Keeper);
 
-pub const MISTAKES: [Mistake; 12] = [
+pub const MISTAKES: [Mistake; 26] = [
     (
         "a path that lost its rows is compared by those in its slot",
-        Keeper { compared: |judge, [path, _], node| judge.rows[judge.given(path)][node], ..RIGHT },
+        Keeper { compared: |judge, paths, node| paths.map(|path| judge.stale(path, node)), ..RIGHT },
+    ),
+    (
+        "a path that was passed over is compared as the end of path",
+        Keeper {
+            compared: |judge, paths, node| {
+                paths.map(|path| if judge.given(path) == 0 { 1 << node } else { judge.ends(path, node) })
+            },
+            ..RIGHT
+        },
     ),
     (
         "a path without rows has the ends of the one it is compared with",
-        Keeper { compared: |judge, paths, node| judge.ends(judge.held_of(paths), node), ..RIGHT },
+        Keeper {
+            compared: |judge, [one, other], node| {
+                [[one, other], [other, one]].map(|paths| judge.ends(judge.held_of(paths), node))
+            },
+            ..RIGHT
+        },
     ),
     (
         "a path without rows leads nowhere",
-        Keeper { compared: |judge, paths, node| judge.or(paths, node, 0), ..RIGHT },
+        Keeper { compared: |judge, paths, node| paths.map(|path| judge.by_rows(path, node)), ..RIGHT },
     ),
     (
-        "a path without rows is the end of path",
-        Keeper { compared: |judge, paths, node| judge.or(paths, node, 1 << node), ..RIGHT },
+        "the first path is compared with itself",
+        Keeper { compared: |judge, [path, _], node| [judge.ends(path, node); 2], ..RIGHT },
+    ),
+    (
+        "the second path is compared with itself",
+        Keeper { compared: |judge, [_, path], node| [judge.ends(path, node); 2], ..RIGHT },
     ),
     (
         "a path is built on the rows in a slot that another path has",
         Keeper { built_on: |judge, path| Some(judge.given(path)), ..RIGHT },
     ),
-    ("a path built on one without rows has those of its slot", Keeper { gives_anyway: true, ..RIGHT }),
+    ("a path that is passed over has the rows of a slot", Keeper { gives_anyway: true, ..RIGHT }),
     ("a path is built on rows that its own overwrite", Keeper { empties: false, ..RIGHT }),
+    ("a slot has the rows of the entry behind its path", Keeper { holder: |entry| entry + 1, ..RIGHT }),
     (
         "the slot of the end of path is given to others",
         Keeper { next: |slots, entry| slots.next(entry) % (slots.count() - 1), ..RIGHT },
     ),
     ("the last slot alone is given", Keeper { next: |slots, _| slots.count() - 1, ..STALE }),
+    (
+        "a node has the row of the one before it, wherever it leads",
+        Keeper { leads_alike: |_, _, node| node > 0, ..RIGHT },
+    ),
+    (
+        "a node has the row of the one before it if both lead to as many",
+        Keeper { leads_alike: |judge, axis, node| judge.agree(axis, node, Nodes::count_ones), ..RIGHT },
+    ),
+    (
+        "a node has the row of the one before it if both lead to the same lowest",
+        Keeper { leads_alike: |judge, axis, node| judge.agree(axis, node, Nodes::trailing_zeros), ..RIGHT },
+    ),
+    (
+        "a node has the row of the one before it if that leads to the same and more",
+        Keeper {
+            leads_alike: |judge, axis, node| {
+                judge.neighbours(axis, node).is_some_and(|[before, own]| own & !before == 0)
+            },
+            ..RIGHT
+        },
+    ),
+    (
+        "a node has the row of the one before it if both lead alike on axis 0",
+        Keeper { leads_alike: |judge, _, node| (RIGHT.leads_alike)(judge, 0, node), ..RIGHT },
+    ),
+    (
+        "node 0 has the row before its own if it leads as node 63 on the axis before",
+        Keeper {
+            leads_alike: |judge, axis, node| match node {
+                0 => axis > 0 && judge.successors(axis, 0) == judge.successors(axis - 1, 63),
+                _ => (RIGHT.leads_alike)(judge, axis, node),
+            },
+            ..RIGHT
+        },
+    ),
+    (
+        "a union of rows is complete with the nodes of the first",
+        Keeper { whole: |judge, slot| judge.rows[slot][0], ..RIGHT },
+    ),
+    (
+        "differ holds where both paths lead to a node",
+        Keeper {
+            some_pair: |judge, comparison, channel, [left, right]| {
+                left & right != 0 || judge.some_pair(comparison, channel, [left, right])
+            },
+            ..RIGHT
+        },
+    ),
+    (
+        "differ doesn't hold where both paths lead to a node",
+        Keeper {
+            some_pair: |judge, comparison, channel, [left, right]| {
+                (comparison == Comparison::Same || left & right == 0)
+                    && judge.some_pair(comparison, channel, [left, right])
+            },
+            ..RIGHT
+        },
+    ),
+    (
+        "same doesn't hold where the paths have no node in common",
+        Keeper {
+            some_pair: |judge, comparison, channel, [left, right]| {
+                (comparison == Comparison::Differ || left & right != 0)
+                    && judge.some_pair(comparison, channel, [left, right])
+            },
+            ..RIGHT
+        },
+    ),
+    (
+        "one value alone is compared where the paths have no node in common",
+        Keeper {
+            some_pair: |judge, comparison, channel, [left, right]| {
+                let lowest = left & left.wrapping_neg();
+                let compared = if left & right == 0 { lowest } else { left };
+                judge.some_pair(comparison, channel, [compared, right])
+            },
+            ..RIGHT
+        },
+    ),
     ("a test lets everything pass, on a path without rows", Keeper { passing: |nodes, _| nodes, ..RIGHT }),
     ("a fork goes left only, on a path without rows", Keeper { sides: |alpha, _| [alpha; 2], ..RIGHT }),
     ("a fork goes right only, on a path without rows", Keeper { sides: |_, beta| [beta; 2], ..RIGHT }),
@@ -77,7 +187,7 @@ pub const MISTAKES: [Mistake; 12] = [
 /// Takes every path to have the rows of its slot.
 const STALE: Keeper = Keeper {
     built_on: |judge, path| Some(judge.given(path)),
-    compared: |judge, [path, _], node| judge.rows[judge.given(path)][node],
+    compared: |judge, paths, node| paths.map(|path| judge.rows[judge.given(path)][node]),
     ..RIGHT
 };
 
@@ -102,6 +212,8 @@ pub struct Judge<'a> {
     pattern: &'a Pattern,
     model: &'a Model,
     slots: Slots,
+    /// By axis and node.
+    successors: [[Nodes; 64]; 8],
     /// By slot and node, where its path leads.
     rows: Vec<Vec<Nodes>>,
     /// By entry, the slot that it was given last.
@@ -116,7 +228,12 @@ impl<'a> Judge<'a> {
         let slots = Slots::new(pattern, nodes);
         let mut rows = vec![vec![0; nodes]; slots.count()];
         rows[0] = (0..nodes).map(|node| 1 << node).collect();
-        Judge { keeper, pattern, model, slots, rows, given: vec![0; entries], holds: vec![0; entries] }
+        let mut successors = [[0; 64]; 8];
+        for &(from, axis, to) in &model.edges {
+            successors[axis as usize][from as usize] |= 1 << to;
+        }
+        let (given, holds) = (vec![0; entries], vec![0; entries]);
+        Judge { keeper, pattern, model, slots, successors, rows, given, holds }
     }
 
     fn finding(mut self) -> Finding {
@@ -134,34 +251,66 @@ impl<'a> Judge<'a> {
         }
     }
 
-    /// Gives a path its rows, if it is built on paths that have theirs.
+    /// Gives a path its rows, if it is built on paths that have theirs, also when it has a slot.
     fn learn(&mut self, number: usize, entry: &Entry) {
+        if self.built_on(entry).is_none() && !self.keeper.gives_anyway {
+            return;
+        }
         let slot = (self.keeper.next)(&self.slots, number);
         if self.keeper.empties {
             self.slots.give(slot, None);
         }
-        let rests: Option<Vec<usize>> =
-            paths_of(entry).into_iter().map(|path| (self.keeper.built_on)(self, path)).collect();
-        for node in 0..self.model.nodes.len() {
-            if let Some(rests) = &rests {
-                self.rows[slot][node] = self.row(entry, rests, node);
+        let rests = self.built_on(entry);
+        if let Some(rests) = &rests {
+            let whole = (self.keeper.whole)(self, rests[0]);
+            for node in 0..self.model.nodes.len() {
+                self.rows[slot][node] = self.row(entry, rests, whole, [slot, node]);
             }
         }
         if rests.is_some() || self.keeper.gives_anyway {
-            self.slots.give(slot, Some(number));
+            self.slots.give(slot, Some((self.keeper.holder)(number)));
             self.given[number] = slot;
         }
     }
 
-    /// The row of a path that goes on by the paths of these slots.
-    fn row(&self, entry: &Entry, rests: &[usize], node: usize) -> Nodes {
-        let from = |nodes: Nodes| self.union(nodes, |node| self.rows[rests[0]][node]);
+    /// The slots of the paths that a path goes on by.
+    fn built_on(&self, entry: &Entry) -> Option<Vec<usize>> {
+        paths_of(entry).into_iter().map(|path| (self.keeper.built_on)(self, path)).collect()
+    }
+
+    /// The row at this place of a path that goes on by the paths of these slots.
+    fn row(&self, entry: &Entry, rests: &[usize], whole: Nodes, place: [usize; 2]) -> Nodes {
+        let [_, node] = place;
+        let of_rest = |node: usize| self.rows[rests[0]][node];
         match *entry {
-            Entry::Step(axis, _) => from(self.successors(axis, node)),
-            Entry::Jump(name, _) => from(1 << self.model.node_of(name)),
-            Entry::Test(phi, _) => from(1 << node & self.holds[phi]),
+            Entry::Step(axis, _) if (self.keeper.leads_alike)(self, axis, node) => self.row_before(place),
+            Entry::Step(axis, _) => {
+                let rows = members(self.successors(axis, node)).map(of_rest);
+                rows.fold(0, |union, row| if whole & !union == 0 { union } else { union | row })
+            }
+            Entry::Jump(name, _) => of_rest(self.model.node_of(name)),
+            Entry::Test(phi, _) => self.union(1 << node & self.holds[phi], of_rest),
             _ => rests.iter().fold(0, |ends, &rest| ends | self.rows[rest][node]),
         }
+    }
+
+    /// The row before a place: that of node 0 is the last of the slot before.
+    fn row_before(&self, [slot, node]: [usize; 2]) -> Nodes {
+        match node {
+            0 => self.rows[slot - 1][self.model.nodes.len() - 1],
+            _ => self.rows[slot][node - 1],
+        }
+    }
+
+    /// Where the node before leads on an axis, and where the node.
+    fn neighbours(&self, axis: u8, node: usize) -> Option<[Nodes; 2]> {
+        let before = node.checked_sub(1)?;
+        Some([before, node].map(|node| self.successors(axis, node)))
+    }
+
+    /// Whether the two sets agree in this.
+    fn agree(&self, axis: u8, node: usize, of: fn(Nodes) -> u32) -> bool {
+        self.neighbours(axis, node).is_some_and(|[before, own]| of(before) == of(own))
     }
 
     fn holds_at(&self, entry: &Entry, node: usize) -> bool {
@@ -172,15 +321,14 @@ impl<'a> Judge<'a> {
             Entry::Both(phi, psi) => (self.holds[phi] & self.holds[psi]) >> node & 1 == 1,
             Entry::After(axis, phi) => self.successors(axis, node) & self.holds[phi] != 0,
             Entry::Compare(comparison, channel, alpha, beta) => {
-                let [left, right] =
-                    [[alpha, beta], [beta, alpha]].map(|paths| (self.keeper.compared)(self, paths, node));
-                self.some_pair(comparison, channel, left, right)
+                let ends = (self.keeper.compared)(self, [alpha, beta], node);
+                (self.keeper.some_pair)(self, comparison, channel, ends)
             }
             _ => false,
         }
     }
 
-    fn some_pair(&self, comparison: Comparison, channel: u8, left: Nodes, right: Nodes) -> bool {
+    fn some_pair(&self, comparison: Comparison, channel: u8, [left, right]: [Nodes; 2]) -> bool {
         let value = |node: usize| self.model.nodes[node].values[channel as usize];
         let partners = |node: usize| {
             self.nodes_where(|other| (value(other) == value(node)) == (comparison == Comparison::Same))
@@ -198,9 +346,17 @@ impl<'a> Judge<'a> {
         if self.slots.hold(path) { path } else { other }
     }
 
-    /// Where the first path leads, or these nodes if it has no rows.
-    fn or(&self, [path, _]: [Path; 2], node: usize, without: Nodes) -> Nodes {
-        self.slots.of(path).map_or(without, |slot| self.rows[slot][node])
+    /// Where a path leads from a node, by its rows alone.
+    fn by_rows(&self, path: Path, node: usize) -> Nodes {
+        self.slots.of(path).map_or(0, |slot| self.rows[slot][node])
+    }
+
+    /// Where a path leads from a node, by the rows of the slot that it was given, if it was.
+    fn stale(&self, path: Path, node: usize) -> Nodes {
+        match self.given(path) {
+            0 => self.ends(path, node),
+            slot => self.rows[slot][node],
+        }
     }
 
     /// Where a path leads from a node.
@@ -233,8 +389,7 @@ impl<'a> Judge<'a> {
     }
 
     fn successors(&self, axis: u8, node: usize) -> Nodes {
-        let edges = self.model.edges.iter().filter(|edge| edge.0 as usize == node && edge.1 == axis);
-        edges.fold(0, |nodes, edge| nodes | 1 << edge.2)
+        self.successors[axis as usize][node]
     }
 
     fn nodes_where(&self, is_so: impl Fn(usize) -> bool) -> Nodes {
@@ -242,7 +397,11 @@ impl<'a> Judge<'a> {
     }
 
     fn union(&self, nodes: Nodes, of_node: impl Fn(usize) -> Nodes) -> Nodes {
-        let members = (0..self.model.nodes.len()).filter(|node| nodes >> node & 1 == 1);
-        members.fold(0, |union, node| union | of_node(node))
+        members(nodes).fold(0, |union, node| union | of_node(node))
     }
+}
+
+/// The nodes of a set, the lowest first.
+fn members(nodes: Nodes) -> impl Iterator<Item = usize> {
+    (0..64).filter(move |node| nodes >> node & 1 == 1)
 }

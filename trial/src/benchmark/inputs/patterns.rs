@@ -282,14 +282,32 @@ pub fn tests_before_a_long_path(count: usize) -> Pattern {
 const KEPT: usize = 95;
 
 /// A path of steps, of which the last parts are used again at the end, with another path two more than have rows at
-/// once. Between are rounds of the part that loses its rows, which is swept again and again.
-pub fn rounds_of_a_lost_path(axes: usize) -> Pattern {
+/// once. Between are rounds of one part, which keeps its rows as the next that is used, while others lose theirs.
+pub fn rounds_beside_lost_paths(axes: usize) -> Pattern {
     let (passed, waiting) = (30, KEPT + 1);
     let mut entries = Entries::default();
     entries.steps(passed + waiting, axes);
     entries.add(Entry::Step(7, None));
     let node = entries.rounds(255 - waiting - 3, Some(2 * passed), DIFFER);
     entries.use_again(passed, waiting + 1, node);
+    entries.pattern()
+}
+
+/// A path of steps two more than have rows at once, and another path. All parts are used again, the longest first, and
+/// the whole path last, which loses its rows by that. Behind are rounds of it, in which it is swept again and again:
+/// the dearest that was found.
+pub fn rounds_of_a_lost_path(axes: usize) -> Pattern {
+    let mut entries = Entries::default();
+    let path = entries.steps(KEPT + 2, axes);
+    let mut all = entries.add(Entry::Step(7, None));
+    for part in (0..=KEPT).rev() {
+        all = entries.add(Entry::Fork(Some(all), Some(part)));
+    }
+    let mut node = entries.add(Entry::Compare(DIFFER, 0, Some(all), path));
+    while entries.count() + 2 <= 255 {
+        let test = entries.add(Entry::Test(node, path));
+        node = entries.add(Entry::Compare(DIFFER, 0, Some(test), path));
+    }
     entries.pattern()
 }
 

@@ -22,7 +22,7 @@ const SHARES: [(usize, Kind); 25] = [
     (7, Kind::MutatedModel),
     (3, Kind::DisorderedModel),
     (4, Kind::ModelLimit),
-    (1, Kind::ManyPaths),
+    (2, Kind::ManyPaths),
     (4, Kind::PlannedModel),
     (6, Kind::MutatedPlannedModel),
     (7, Kind::WalkedTableau),

@@ -37,15 +37,22 @@ pub fn limit(random: &mut Random, input: &mut Input) {
     limits::model::model(random, &pattern, &mut input.proposal);
 }
 
-/// A random model for a pattern of many paths.
+/// A random model for a pattern of many paths, as often as not of many values, so that few ends are equal.
 pub fn of_many_paths(random: &mut Random, input: &mut Input) {
     input.operation = Operation::Model;
     let size = paths::Size::random(random);
     let vocabulary = patterns::Vocabulary::random(random);
     let pattern = paths::many(random, vocabulary, size);
-    let edges = size.nodes * random.between(2, 8) * vocabulary.axes / 2;
+    let edges = size.nodes * random.pick(&[1, 2, 2, 3, 4, 8]) * vocabulary.axes / 2;
     input.pattern = pattern.to_bytes();
-    input.proposal = models::of_size(random, &pattern, vocabulary, [size.nodes, edges]).to_bytes();
+    let mut model = models::of_size(random, &pattern, vocabulary, [size.nodes, edges]);
+    if random.once_in(2) {
+        model
+            .nodes
+            .iter_mut()
+            .for_each(|node| node.values = node.values.map(|_| random.below(size.nodes) as u16));
+    }
+    input.proposal = model.to_bytes();
     rename(random, input);
 }
 
