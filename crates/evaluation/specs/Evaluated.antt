@@ -10,7 +10,7 @@ use native.Mathlib.Nat.{lt-of-lt-of-le}
 use lib.ListN.{length}
 use Rattle.nodeset.specs.declared.NodeSet.{NodeSet}
 use Rattle.nodeset.specs.Members.{HasExactly}
-use Rattle.nodeset.specs.Set.{width, has, emptySet, insertIf, meet, minus}
+use Rattle.nodeset.specs.Set.{has, emptySet, insertIf, meet, minus}
 use Rattle.nodeset.specs.Stored.{tableBytes, setAt}
 use Rattle.pattern.specs.declared.types.Comparison.{Comparison}
 use Rattle.pattern.specs.declared.table.Sort.{Sort}

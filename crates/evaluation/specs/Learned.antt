@@ -5,7 +5,7 @@ use mathlib.Core.Path.{_≡_, refl, sym, _∙_, ap, subst}
 use mathlib.Core.Bool.{Bool, true, false, not, false≢true}
 use mathlib.Core.Logic.{_⊎_, inl, inr, _↔_}
 use mathlib.Core.List.{List}
-use Prim.Native.Nat.{ℕ, suc, _+_, _-_, _≤_, _<_}
+use Prim.Native.Nat.{ℕ, _+_, _-_, _≤_, _<_}
 use native.Mathlib.Nat.{mul-zero, zero-add}
 use native.Mathlib.Omega.{arith}
 use lib.Dec.{eqb}
@@ -14,14 +14,14 @@ use lib.Seq.{getD-set-same, getD-set-other}
 use borrow.Author.Tests.{eqb-true, eqb-false, eq-eqb}
 use Rattle.nodeset.specs.declared.NodeSet.{NodeSet}
 use Rattle.nodeset.specs.Set.{has}
-use Rattle.nodeset.specs.Stored.{tableBytes, setAt, put, length-put, put-same, put-other}
+use Rattle.nodeset.specs.Stored.{setAt, put, length-put, put-other}
 use Rattle.pattern.specs.declared.table.Sort.{Sort}
 use Rattle.pattern.specs.File.Table.{endOfPath, isNode, path-no-node, sort-no-node}
 use Rattle.pattern.specs.File.Reading.{countOf, sortAt}
 use Rattle.pattern.specs.Logic.Finite.{NodeOf, node-same}
 use Rattle.decision.specs.Root.{root-holds}
 use Rattle.relations.specs.Tables.{IsSet}
-use Rattle.relations.specs.Filled.{Filled, exactly-put}
+use Rattle.relations.specs.Filled.{exactly-put}
 use Rattle.relations.specs.Paths.{RowsFit}
 use Rattle.evaluation.specs.Standing.{placeOf, areaBytes, Holding, Leading, Lent, Standing, Evaluates, Ends, RootNodes}
 use Rattle.slots.specs.Marks.{markOf, tagAt, tagOf, tagFor, isKnown, isHeld, firstRow, PathOf, IsFree, MayHold, slots-apart}
@@ -124,9 +124,6 @@ module _ {bs table alike : List ℕ} {n : ℕ} (lent : Lent bs table alike n) wh
   module _ {area rows marks : List ℕ} (known : Learned bs table alike n area rows marks) where
     -- ---- a slot that is taken from its path
     module _ (slot : ℕ) (may : MayHold slot) where
-      taken : List ℕ
-      taken = set marks (tagAt slot) 0
-
       taken-mark : (i : ℕ) → i ≤ endOfPath → markOf (set marks (tagAt slot) 0) i ≡ markOf marks i
       taken-mark i l = getD-set-other marks (tagAt slot) i 0 0 (λ e. omega (arith, e, l))
 
@@ -201,9 +198,6 @@ module _ {bs table alike : List ℕ} {n : ℕ} (lent : Lent bs table alike n) wh
       where
         few : countOf bs ≤ endOfPath
         few = lent-valid lent .header .one-byte
-
-        after : List ℕ
-        after = set (set marks k slot) (tagAt slot) (tagFor k)
 
         -- the marks are as they were but for that of k, which is the slot
         low : (i : ℕ) → i ≤ endOfPath → markOf (set (set marks k slot) (tagAt slot) (tagFor k)) i ≡ markOf (set marks k slot) i

@@ -4,7 +4,7 @@ use mathlib.Core.Path.{_≡_, refl, sym, _∙_, ap, subst}
 use mathlib.Core.Bool.{Bool, true, false, _&&_, not, false≢true}
 use mathlib.Core.Logic.{_↔_, Iff·trans}
 use mathlib.Core.List.{List}
-use Prim.Native.Nat.{ℕ, _≤_, _<_}
+use Prim.Native.Nat.{ℕ, _<_}
 use borrow.Author.Tests.{not-true}
 use Rattle.nodeset.specs.declared.NodeSet.{NodeSet}
 use Rattle.nodeset.specs.Members.{HasExactly}
@@ -41,7 +41,7 @@ module _ (F : Finite) where
   set-as P Q s same set u = (λ h. let r = set u .0 h in (r .0, same (u, r .0) .1 (r .1)), λ h. set u .1 (h .0, same (u, h .0) .0 (h .1)))
 
   -- a node by its number
-  again : (P : NodeOf F → Type 0) (u : ℕ) (l l′ : u < F .size) → P (u, l) → P (u, l′)
+  pub again : (P : NodeOf F → Type 0) (u : ℕ) (l l′ : u < F .size) → P (u, l) → P (u, l′)
   again P u l l′ h = subst P (node-same F refl) h
 
   set-meet : (P Q : NodeOf F → Type 0) (s t : NodeSet) → IsSet F P s → IsSet F Q t → IsSet F (λ u. P u × Q u) (meet s t)
@@ -158,15 +158,12 @@ module _ (F : Finite) (ok : Named F) {bs : List ℕ} {n : ℕ} (valid : Valid bs
   nodes-compare s c kind set =
       set-as F (Holding F ok bs k) (Comparing F ok bs c (entryAt bs k .x) (entryAt bs k .y) (entryAt bs k .z)) s (λ u. compare-clause c kind u) set
 
-  uses-channel : (c : Comparison) → entryAt bs k .kind ≡ comparisonKind c → Uses bs (comparisonKind c) (entryAt bs k .x)
-  uses-channel c kind = uses-first valid k l (comparisonKind c) kind
-
 -- a comparison at one node, by the ends of both paths from it
 module _ {bs table alike : List ℕ} {n : ℕ} (valid : Valid bs (countOf bs)) (k : ℕ) (l : k < countOf bs) (c : Comparison)
     (kind : entryAt bs k .kind ≡ comparisonKind c) (w : Standing bs table alike n) where
   -- the rows of its channel stand for the model's values
   pub channel-rows : AlikeOn (w .model) alike (entryAt bs k .x)
-  channel-rows = w .alike-is c (entryAt bs k .x) (uses-channel (w .model) (w .named) valid k l c kind)
+  channel-rows = w .alike-is c (entryAt bs k .x) (uses-first valid k l (comparisonKind c) kind)
 
   pub pair-compares-in : (u : ℕ) → u < n → (s t : NodeSet) → Ends bs table alike n (entryAt bs k .y) u s
       → Ends bs table alike n (entryAt bs k .z) u t → Pair alike (entryAt bs k .x) c s t ↔ ComparesIn w k c u

@@ -4,10 +4,8 @@ use mathlib.Core.Path.{_≡_, refl, sym, _∙_, ap, subst}
 use mathlib.Core.Bool.{Bool, true, false, false≢true}
 use mathlib.Core.Logic.{_⊎_, inl, inr, _↔_, Iff·trans}
 use mathlib.Core.List.{List}
-use Prim.Native.Nat.{ℕ, _+_, _≤_, _<_}
+use Prim.Native.Nat.{ℕ, _+_, _<_}
 use native.Mathlib.Nat.{le-of-lt, lt-trans}
-use native.Mathlib.Omega.{arith}
-use lib.ListN.{length}
 use Rattle.nodeset.specs.declared.NodeSet.{NodeSet}
 use Rattle.nodeset.specs.Set.{has}
 use Rattle.nodeset.specs.Stored.{setAt}
@@ -18,18 +16,17 @@ use Rattle.pattern.specs.declared.table.Sort.{Sort}
 use Rattle.pattern.specs.File.Entries.{entryAt}
 use Rattle.pattern.specs.File.Fields.{OfReferences, eachField}
 use Rattle.pattern.specs.File.Reading.{countOf, sortAt}
-use Rattle.pattern.specs.File.Table.{sortOf}
 use Rattle.pattern.specs.File.Valid.{Valid, EarlierPath}
 use Rattle.pattern.specs.Logic.Finite.{Finite, NodeOf, node-same, namingOf}
 use Rattle.relations.specs.declared.kinds.PathKind.{PathKind}
 use Rattle.relations.specs.Kinds.{pathKindOf, IsPathKind, path-kind-is}
 use Rattle.relations.specs.Tables.{IsSet, successorsRow, nameRow}
 use Rattle.relations.specs.Filled.{Filled}
-use Rattle.relations.specs.Paths.{RowBy, InRange, Bounded, Parts, RowsFit}
+use Rattle.relations.specs.Paths.{RowBy, InRange, Bounded}
 use Rattle.evaluation.specs.Standing.{Holding, Leading, Lent, Standing, Evaluates, Ends}
 use Rattle.slots.specs.Marks.{PathOf, firstRow, isHeld, fieldHeld, each-held}
-use Rattle.evaluation.specs.Learned.{Rowed}
 use Rattle.evaluation.specs.Entries.{earlier-path, refers-as, within-as, uses-its-name, path-clause}
+use Rattle.evaluation.specs.Nodes.{again}
 use Rattle.evaluation.specs.Evaluated.{lent-valid}
 
 -- a path entry goes on by y; a fork goes on by x too, and for the other kinds y stands again
@@ -70,10 +67,6 @@ pub record PathRead (bs table alike : List ℕ) (n k : ℕ) (e : Entry) (kind : 
   pub by : kind ≡ pathKindOf (e .kind)
 
 -- ---- laws
--- a node by its number
-again : (F : Finite) (P : NodeOf F → Type 0) (u : ℕ) (l l′ : u < F .size) → P (u, l) → P (u, l′)
-again F P u l l′ h = subst P (node-same F refl) h
-
 module _ {bs table alike : List ℕ} {n k : ℕ} {e : Entry} {kind : PathKind} (q : PathRead bs table alike n k e kind) where
   ok : Valid bs (countOf bs)
   ok = lent-valid (q .lent)
@@ -157,7 +150,7 @@ module _ {bs table alike : List ℕ} {n k : ℕ} {e : Entry} {kind : PathKind} (
   module _ (rows : List ℕ) (held : NodeSet) (first second : ℕ)
       (α : (u : ℕ) → u < n → Ends bs table alike n (otherPath kind (e .x) (e .y)) u (setAt rows (first + u)))
       (β : (u : ℕ) → u < n → Ends bs table alike n (e .y) u (setAt rows (second + u))) (test : TestSet bs table alike n kind (e .x) held) where
-    pub row-ends : (u : ℕ) → u < n → (s : NodeSet) → HasExactly (RowBy kind table rows (e .x) held first second u) s → Ends bs table alike n k u s
+    row-ends : (u : ℕ) → u < n → (s : NodeSet) → HasExactly (RowBy kind table rows (e .x) held first second u) s → Ends bs table alike n k u s
     row-ends u l s row w m v =
         Iff·trans (row v)
         (subst (λ (e′ : Entry). RowBy kind table rows (e′ .x) held first second u v ↔ ((b : v < w .model .size) × Leading (w .model) (w .named) bs k (u, m) (v, b))) (sym (q .same))

@@ -23,7 +23,7 @@ use Rattle.pattern.specs.File.Table.{endOfPath, sortOf}
 use Rattle.pattern.specs.File.Entries.{entryAt}
 use Rattle.pattern.specs.File.Reading.{sortAt}
 use Rattle.pattern.specs.File.Valid.{Valid, EarlierPath}
-use Rattle.pattern.specs.Logic.Finite.{Finite, Named, NodeOf, node-same, modelOf, namingOf}
+use Rattle.pattern.specs.Logic.Finite.{Finite, Named, NodeOf, node-same, namingOf}
 use Rattle.relations.specs.Tables.{IsSet, Inside, Tabled, successorsRow, nameRow}
 use Rattle.relations.specs.Members.{Image}
 use Rattle.evaluation.specs.Standing.{pendingBytes, Holding, Leading}

@@ -13,11 +13,9 @@ use wire::clear;
 ghost use mathlib.Core.Path.{_≡_};
 ghost use Prim.Native.Nat.{_-_, _*_, _≤_, _<_};
 ghost use lib.ListN.{length, replicate};
-ghost use Rattle.nodeset.specs.Set.{width};
 ghost use Rattle.nodeset.specs.Stored.{tableBytes};
 ghost use Rattle.pattern.specs.File.Reading.{countOf};
 ghost use Rattle.evaluation.specs.Standing.{areaBytes, Lent, Evaluates, RootNodes};
-ghost use Rattle.slots.specs.Marks.{firstRow};
 ghost use Rattle.evaluation.specs.Learned.{Learned};
 
 // The bytes of the rows: of most judgements, so that little is cleared, and of the largest.

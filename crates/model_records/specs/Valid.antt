@@ -254,11 +254,7 @@ pub unlisted : (ds : List ℕ) (i : ℕ) → isListed ds i ≡ false → modelFr
 unfolding nodeNamed
 unlisted ds i e = rw e
 
--- a name that is listed is that of a record, and one that isn't of none
+-- a name that is listed is that of a record
 pub listed-found : (ds : List ℕ) (i : ℕ) → isListed ds i ≡ true → (j : ℕ) × (j < nameCount ds) × (nameOf ds j ≡ i)
 unfolding isListed
 listed-found ds i e = let r = some-found (recordLists ds i) (nameCount ds) e in (r .0, r .1, eqb-true _ _ (r .2))
-
-pub unlisted-none : (ds : List ℕ) (i : ℕ) → isListed ds i ≡ false → (j : ℕ) → j < nameCount ds → nameOf ds j ≡ i → ⊥
-unfolding isListed
-unlisted-none ds i e j l = eqb-false _ _ (none-at (recordLists ds i) (nameCount ds) j e l)

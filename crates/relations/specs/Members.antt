@@ -211,7 +211,3 @@ module _ (P : ℕ → Type 0) where
       go : (t : Bool) → (t ≡ true) ↔ P n → Collected P (suc n) (insertIf t s n)
       go true e = collected-one n s l (e .0 refl) g
       go false e = collected-past n s (λ p. false≢true (e .1 p)) g
-
-  -- all nodes that have P, where only numbers below the width do
-  pub collected-all : (s : NodeSet) → ((u : ℕ) → P u → u < width) → Collected P width s → HasExactly P s
-  collected-all s below g u = (λ h. g u .0 h .1, λ p. g u .1 (below u p, p))

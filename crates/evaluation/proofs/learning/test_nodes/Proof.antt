@@ -1,9 +1,9 @@
 -- `evaluation::learning::test_nodes` meets its contract.
 -- Assumes nothing.
 use borrow.Author.Needs.{needs}
-use mathlib.Core.Path.{_≡_, sym, subst}
+use mathlib.Core.Path.{subst}
 use Rattle.relations.specs.declared.kinds.PathKind.{PathKind}
-use Rattle.evaluation.specs.Rows.{TestNode, TestSet}
+use Rattle.evaluation.specs.Rows.{TestNode}
 use Rattle.evaluation.proofs.learning.test_nodes.Statement.{statement}
 use Rattle.evaluation.proofs.learning.test_nodes.Tie as tie
 

@@ -2,7 +2,6 @@
 -- Assumes nothing.
 use borrow.Author.Needs.{needs}
 use native.Mathlib.Omega.{arith}
-use Rattle.pattern.specs.File.Reading.{countOf}
 use Rattle.evaluation.specs.Evaluated.{lent-valid}
 use Rattle.evaluation.specs.Learned.{learned-first}
 use Rattle.evaluation.proofs.root.run.Statement.{statement}

@@ -1,8 +1,7 @@
 -- `slots::uses::free_slot` meets its contract.
 -- Assumes nothing.
 use borrow.Author.Needs.{needs}
-use mathlib.Core.Path.{_≡_}
-use Prim.Native.Nat.{ℕ, _≤_, _<_, _-_}
+use Prim.Native.Nat.{_≤_, _<_, _-_}
 use native.Mathlib.Omega.{arith}
 use Rattle.slots.proofs.uses.free_slot.Statement.{statement}
 use Rattle.slots.proofs.uses.free_slot.Tie as tie

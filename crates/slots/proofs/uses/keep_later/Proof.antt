@@ -1,7 +1,7 @@
 -- `slots::uses::keep_later` stays within its bytes.
 -- Assumes nothing.
 use borrow.Author.Needs.{needs}
-use Prim.Native.Nat.{ℕ, _-_, _≤_}
+use Prim.Native.Nat.{_-_, _≤_}
 use Rattle.slots.proofs.uses.keep_later.Statement.{statement}
 use Rattle.slots.proofs.uses.keep_later.Tie as tie
 

@@ -1,7 +1,7 @@
 -- `slots::uses::needed_uses` stays within the pattern and its own bytes.
 -- Assumes nothing.
 use borrow.Author.Needs.{needs}
-use Prim.Native.Nat.{ℕ, _≤_}
+use Prim.Native.Nat.{_≤_}
 use native.Mathlib.Nat.{le-refl}
 use native.Mathlib.Omega.{arith}
 use Rattle.pattern.specs.File.Valid.{valid}

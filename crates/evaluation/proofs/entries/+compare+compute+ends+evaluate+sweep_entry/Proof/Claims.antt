@@ -1,8 +1,9 @@
 -- What the five functions of the cycle ask of each other and of the functions that they call: the measure of each, which is by the entry
 -- number, and the claims at a measure.
 -- Assumes nothing.
-use borrow.Fn.Kinds.{In}
+use borrow.Fn.Kinds.{In, PK}
 use borrow.Fn.PlainCycle.{Measures, is, falls, and}
+use mathlib.Core.List.{List}
 use Prim.Native.Nat.{ℕ, _+_, _*_, _<_}
 use Rattle.evaluation.proofs.entries.add.Reads as add-reads
 use Rattle.relations.proofs.model.all_nodes.Reads as all-nodes-reads
@@ -61,35 +62,26 @@ abbrev pub μ-sweep-entry : Measures 7 sweep-entry-kinds.ps ℕ
 μ-sweep-entry κs a = 8 * a .1 .1 .1 .1 .1 .1 .1 .0 + 7
 
 -- what a function asks, where its measure is t and where it is below t
+abbrev asked : (n : ℕ) (ps : List (PK n)) → Measures n ps ℕ → In n ps → ℕ → In n ps
+asked n ps μ Pre t = and n ps (is n ps μ t) Pre
+
+abbrev below : (n : ℕ) (ps : List (PK n)) → Measures n ps ℕ → In n ps → ℕ → In n ps
+below n ps μ Pre t = and n ps (falls n ps _<_ μ t) Pre
+
 abbrev pub compare-at : ℕ → In 6 compare-kinds.ps
-compare-at t = and 6 compare-kinds.ps (is 6 compare-kinds.ps μ-compare t) compare.Pre
-
-abbrev pub compare-below : ℕ → In 6 compare-kinds.ps
-compare-below t = and 6 compare-kinds.ps (falls 6 compare-kinds.ps _<_ μ-compare t) compare.Pre
-
-abbrev pub ends-at : ℕ → In 6 ends-kinds.ps
-ends-at t = and 6 ends-kinds.ps (is 6 ends-kinds.ps μ-ends t) ends.Pre
-
-abbrev pub ends-below : ℕ → In 6 ends-kinds.ps
-ends-below t = and 6 ends-kinds.ps (falls 6 ends-kinds.ps _<_ μ-ends t) ends.Pre
-
-abbrev pub evaluate-at : ℕ → In 6 evaluate-kinds.ps
-evaluate-at t = and 6 evaluate-kinds.ps (is 6 evaluate-kinds.ps μ-evaluate t) evaluate.Pre
-
-abbrev pub evaluate-below : ℕ → In 6 evaluate-kinds.ps
-evaluate-below t = and 6 evaluate-kinds.ps (falls 6 evaluate-kinds.ps _<_ μ-evaluate t) evaluate.Pre
+compare-at = asked 6 compare-kinds.ps μ-compare compare.Pre
 
 abbrev pub compute-at : ℕ → In 6 compute-kinds.ps
-compute-at t = and 6 compute-kinds.ps (is 6 compute-kinds.ps μ-compute t) compute.Pre
+compute-at = asked 6 compute-kinds.ps μ-compute compute.Pre
 
-abbrev pub compute-below : ℕ → In 6 compute-kinds.ps
-compute-below t = and 6 compute-kinds.ps (falls 6 compute-kinds.ps _<_ μ-compute t) compute.Pre
+abbrev pub ends-at : ℕ → In 6 ends-kinds.ps
+ends-at = asked 6 ends-kinds.ps μ-ends ends.Pre
+
+abbrev pub evaluate-at : ℕ → In 6 evaluate-kinds.ps
+evaluate-at = asked 6 evaluate-kinds.ps μ-evaluate evaluate.Pre
 
 abbrev pub sweep-entry-at : ℕ → In 7 sweep-entry-kinds.ps
-sweep-entry-at t = and 7 sweep-entry-kinds.ps (is 7 sweep-entry-kinds.ps μ-sweep-entry t) sweep-entry.Pre
-
-abbrev pub sweep-entry-below : ℕ → In 7 sweep-entry-kinds.ps
-sweep-entry-below t = and 7 sweep-entry-kinds.ps (falls 7 sweep-entry-kinds.ps _<_ μ-sweep-entry t) sweep-entry.Pre
+sweep-entry-at = asked 7 sweep-entry-kinds.ps μ-sweep-entry sweep-entry.Pre
 
 -- what each function asks and learns of those that it calls
 abbrev pub compare-claims : ℕ → compare-lts.Claims
@@ -104,7 +96,7 @@ compare-claims t = (
   compare-rows-reads.Learnt,
   empty-reads.Asked,
   empty-reads.Learnt,
-  ends-below t,
+  below 6 ends-kinds.ps μ-ends ends.Pre t,
   ends.Post,
   some-pair-reads.Asked,
   some-pair-reads.Learnt,
@@ -126,7 +118,7 @@ ends-claims t = (
   store-reads.Learnt,
   entries-swept-reads.Asked,
   entries-swept-reads.Learnt,
-  sweep-entry-below t,
+  below 7 sweep-entry-kinds.ps μ-sweep-entry sweep-entry.Pre t,
   sweep-entry.Post,
 )
 
@@ -136,7 +128,7 @@ evaluate-claims t = (
   is-known-reads.Learnt,
   load-reads.Asked,
   load-reads.Learnt,
-  compute-below t,
+  below 6 compute-kinds.ps μ-compute compute.Pre t,
   compute.Post,
 )
 
@@ -150,7 +142,7 @@ compute-claims t = (
   with-property-reads.Learnt,
   with-name-reads.Asked,
   with-name-reads.Learnt,
-  evaluate-below t,
+  below 6 evaluate-kinds.ps μ-evaluate evaluate.Pre t,
   evaluate.Post,
   all-nodes-reads.Asked,
   all-nodes-reads.Learnt,
@@ -160,7 +152,7 @@ compute-claims t = (
   meet-reads.Learnt,
   before-reads.Asked,
   before-reads.Learnt,
-  compare-below t,
+  below 6 compare-kinds.ps μ-compare compare.Pre t,
   compare.Post,
   empty-reads.Asked,
   empty-reads.Learnt,
@@ -182,7 +174,7 @@ sweep-entry-claims t = (
   add-reads.Learnt,
   with-name-reads.Asked,
   with-name-reads.Learnt,
-  evaluate-below t,
+  below 6 evaluate-kinds.ps μ-evaluate evaluate.Pre t,
   evaluate.Post,
   meet-reads.Asked,
   meet-reads.Learnt,

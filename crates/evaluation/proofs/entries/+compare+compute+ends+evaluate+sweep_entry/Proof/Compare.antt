@@ -4,7 +4,6 @@
 use borrow.Author.Needs.{needs}
 use borrow.Fn.Kinds.{In, Out}
 use mathlib.Core.Path.{_≡_, sym, _∙_, subst}
-use mathlib.Core.Bool.{true}
 use Prim.Native.Nat.{ℕ, _-_, _≤_}
 use native.Mathlib.Omega.{arith}
 use Rattle.pattern.specs.Checks.Tests.{and-is-true}
@@ -144,20 +143,6 @@ module _ (t : ℕ) where
   pub closed : {M : Type 1} → lts.Closed (compare-claims t) (compare-at t) reads.Post M
   closed =
       lts.spec (compare-claims t) (compare-at t) reads.Post Inv-loop μ-loop
-      at-requires
-      (λ c κs. search needs)
-      (λ c κs. search needs)
-      (λ c κs. search needs)
-      (λ c κs. search needs)
-      compare-rows-requires
-      returns
-      (λ c κs. search needs)
-      loop-holds
-      ends-requires
-      ends-requires-2
-      some-pair-requires
-      insert-if-requires
-      add-u
-      (λ c. search needs)
-      loop-again
-      returns-2
+      at-requires (λ c κs. search needs) (λ c κs. search needs) (λ c κs. search needs) (λ c κs. search needs) compare-rows-requires returns
+      (λ c κs. search needs) loop-holds ends-requires ends-requires-2 some-pair-requires insert-if-requires add-u (λ c. search needs)
+      loop-again returns-2

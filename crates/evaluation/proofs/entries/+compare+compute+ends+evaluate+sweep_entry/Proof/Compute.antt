@@ -107,31 +107,7 @@ module _ (t : ℕ) where
   pub closed : {M : Type 1} → lts.Closed (compute-claims t) (compute-at t) reads.Post M
   closed =
       lts.spec (compute-claims t) (compute-at t) reads.Post
-      at-requires
-      (λ c κs. search needs)
-      (λ c. search needs)
-      with-property-requires
-      (λ c. search needs)
-      with-name-requires
-      (λ c. search needs)
-      evaluate-requires
-      all-nodes-requires
-      (λ c κs. search needs)
-      (λ c. search needs)
-      evaluate-requires-2
-      evaluate-requires-3
-      (λ c κs. search needs)
-      (λ c. search needs)
-      evaluate-requires-4
-      before-requires
-      (λ c. search needs)
-      compare-requires
-      (λ c. search needs)
-      (λ c κs. search needs)
-      returns
-      returns-2
-      returns-3
-      returns-4
-      returns-5
-      returns-6
-      returns-7
+      at-requires (λ c κs. search needs) (λ c. search needs) with-property-requires (λ c. search needs) with-name-requires (λ c. search needs)
+      evaluate-requires all-nodes-requires (λ c κs. search needs) (λ c. search needs) evaluate-requires-2 evaluate-requires-3
+      (λ c κs. search needs) (λ c. search needs) evaluate-requires-4 before-requires (λ c. search needs) compare-requires (λ c. search needs)
+      (λ c κs. search needs) returns returns-2 returns-3 returns-4 returns-5 returns-6 returns-7

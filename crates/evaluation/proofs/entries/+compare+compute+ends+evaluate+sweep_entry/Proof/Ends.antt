@@ -11,7 +11,6 @@ use Rattle.evaluation.specs.Standing.{pendingBytes}
 use Rattle.slots.specs.Marks.{markOf}
 use Rattle.evaluation.specs.Learned.{Rowed}
 use Rattle.evaluation.specs.Sweep.{entriesSwept}
-use Rattle.evaluation.specs.Entries.{reference-fits}
 use Rattle.evaluation.specs.Evaluated.{lent-valid}
 use Rattle.evaluation.specs.SweepEntry.{SweptAt, sweep-begins, sweep-goes-on, sweep-ends, swept-below}
 use Rattle.evaluation.proofs.entries.+compare+compute+ends+evaluate+sweep_entry.Proof.Claims.{ends-claims, ends-at}
@@ -102,21 +101,6 @@ module _ (t : ℕ) where
   pub closed : {M : Type 1} → lts.Closed (ends-claims t) (ends-at t) reads.Post M
   closed =
       lts.spec (ends-claims t) (ends-at t) reads.Post Inv-loop μ-loop
-      (λ c κs. search needs)
-      (λ c κs. search needs)
-      add-load
-      load-requires
-      returns
-      only-requires
-      (λ c. search needs)
-      store-requires
-      (λ c κs. search needs)
-      loop-holds
-      (λ c. search needs)
-      (λ c. search needs)
-      sweep-entry-requires
-      (λ c. search needs)
-      loop-again
-      (λ c. search needs)
-      (λ c κs. search needs)
-      returns-2
+      (λ c κs. search needs) (λ c κs. search needs) add-load load-requires returns only-requires (λ c. search needs) store-requires
+      (λ c κs. search needs) loop-holds (λ c. search needs) (λ c. search needs) sweep-entry-requires (λ c. search needs) loop-again
+      (λ c. search needs) (λ c κs. search needs) returns-2

@@ -86,33 +86,8 @@ module _ (t : ℕ) where
   pub closed : {M : Type 1} → lts.Closed (sweep-entry-claims t) (sweep-entry-at t) reads.Post M
   closed =
       lts.spec (sweep-entry-claims t) (sweep-entry-at t) reads.Post
-      (λ c κs. search needs)
-      (λ c κs. search needs)
-      (λ c. search needs)
-      returns
-      at-requires
-      (λ c κs. search needs)
-      (λ c. search needs)
-      image-requires
-      (λ c κs. search needs)
-      (λ c. search needs)
-      with-name-requires
-      (λ c κs. search needs)
-      (λ c. search needs)
-      evaluate-requires
-      (λ c κs. search needs)
-      add-requires-3
-      (λ c. search needs)
-      (λ c κs. search needs)
-      (λ c κs. search needs)
-      (λ c. search needs)
-      (λ c. search needs)
-      returns-2
-      (λ c. search needs)
-      returns-3
-      (λ c. search needs)
-      returns-4
-      (λ c. search needs)
-      returns-5
-      (λ c. search needs)
-      returns-6
+      (λ c κs. search needs) (λ c κs. search needs) (λ c. search needs) returns at-requires (λ c κs. search needs) (λ c. search needs)
+      image-requires (λ c κs. search needs) (λ c. search needs) with-name-requires (λ c κs. search needs) (λ c. search needs)
+      evaluate-requires (λ c κs. search needs) add-requires-3 (λ c. search needs) (λ c κs. search needs) (λ c κs. search needs)
+      (λ c. search needs) (λ c. search needs) returns-2 (λ c. search needs) returns-3 (λ c. search needs) returns-4 (λ c. search needs)
+      returns-5 (λ c. search needs) returns-6
