@@ -231,7 +231,7 @@ fn learn_needed(
     ensures { λ _. ⌜ Learned (now (p .entry)) (now (table .entry)) (now (alike .entry)) n (now (area .entry)) (now (rows .exit)) (now (marks .exit)) ⌝ }
 {
     let mut uses = [0u8; USES_BYTES];
-    uses_again(p, last, k, &mut uses);
+    uses_again(p, marks, last, k, &mut uses);
     let mut j = 0;
     while j < k {
         learn_again(

@@ -1,6 +1,7 @@
 // What the root reaches, and until when: which entries are worth learning, and which slot may go. It is
 // a matter of speed alone, whatever the answers.
 use crate::marks::MARKS_BYTES;
+use crate::marks::is_held;
 use crate::marks::path_in;
 use pattern::entry::Entry;
 use pattern::entry::sort_at;
@@ -157,9 +158,16 @@ fn taken_slot(p: &[u8], marks: &[u8; MARKS_BYTES], last: &[u8; USES_BYTES], slot
     latest_slot(marks, &next, slots)
 }
 
-// The paths that entry k needs, those that it refers to and those that they go on by: the last use of each
-// up to k.
-fn needed_uses(p: &[u8], k: u8, uses: &mut [u8; USES_BYTES])
+// Whether entry j is a path without rows.
+fn is_lost(p: &[u8], marks: &[u8; MARKS_BYTES], j: u8) -> bool
+    requires { ⌜ HasEntry (now p) j ⌝ }
+{
+    sort_at(p, j).is_path() & !is_held(marks, j)
+}
+
+// The paths that entry k needs, those that it refers to and those that paths without rows among them go on
+// by: the last use of each up to k.
+fn needed_uses(p: &[u8], marks: &[u8; MARKS_BYTES], k: u8, uses: &mut [u8; USES_BYTES])
     requires { ⌜ readingOf (now p) ≡ found (countOf (now p)) ⌝ }
     requires { ⌜ k < countOf (now p) ⌝ }
 {
@@ -167,7 +175,7 @@ fn needed_uses(p: &[u8], k: u8, uses: &mut [u8; USES_BYTES])
     let mut j = k;
     while 0 < j {
         j -= 1;
-        if (uses[j as usize] != 0) & sort_at(p, j).is_path() {
+        if is_lost(p, marks, j) & (uses[j as usize] != 0) {
             refer_to_parts(p, uses, Use::Last, j);
         }
     }
@@ -186,13 +194,27 @@ fn keep_later(last: &[u8; USES_BYTES], k: u8, uses: &mut [u8; USES_BYTES]) {
 
 // Until when each path is used while those that entry k needs are learned again: those to the last that
 // needs them, and what is used behind k to the end.
-pub fn uses_again(p: &[u8], last: &[u8; USES_BYTES], k: u8, uses: &mut [u8; USES_BYTES])
+pub fn uses_again(
+    p: &[u8],
+    marks: &[u8; MARKS_BYTES],
+    last: &[u8; USES_BYTES],
+    k: u8,
+    uses: &mut [u8; USES_BYTES],
+)
     requires { ⌜ readingOf (now p) ≡ found (countOf (now p)) ⌝ }
     requires { ⌜ k < countOf (now p) ⌝ }
 {
-    needed_uses(p, k, uses);
+    needed_uses(p, marks, k, uses);
     keep_later(last, k, uses);
     uses[END as usize] = 0;
+}
+
+// The least use from entry j on: 0 says that there is none, for entry 0 too.
+fn least_use(j: u8) -> u8 {
+    if j == 0 {
+        return 1;
+    }
+    j
 }
 
 // A slot for path entry j, which is learned for entry k, not that of the end of path: the first whose path
@@ -210,10 +232,11 @@ pub fn free_slot(
     requires { ⌜ 2 ≤ slots ⌝ }
     ensures { λ r. ⌜ (0 < r) × (r < slots) ⌝ }
 {
+    let least = least_use(j);
     let mut slot = 1;
     while slot < slots {
         let path = path_in(marks, slot);
-        if uses[path as usize] < j {
+        if uses[path as usize] < least {
             return slot;
         }
         slot += 1;

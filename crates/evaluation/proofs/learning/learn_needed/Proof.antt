@@ -16,14 +16,14 @@ abbrev μ-loop : tie.MeasureT-loop
 μ-loop p table alike area rows₀ marks₀ n slots last k uses j₀ rows marks j = k - j
 
 uses-again-requires : tie.Need-uses-again-requires Inv-loop μ-loop
-uses-again-requires c κs = let s = c .before .before .before .before .before .before in (s .pre .0 .read, s .pre .1 .1 .1)
+uses-again-requires c κs = let s = c .before .before .before .before .before .before .before in (s .pre .0 .read, s .pre .1 .1 .1)
 
 loop-holds : tie.Need-loop-holds Inv-loop μ-loop
-loop-holds c = let s = c .before .before .before .before .before .before .before in (search needs, refl, s .pre .1 .0)
+loop-holds c = let s = c .before .before .before .before .before .before .before .before in (search needs, refl, s .pre .1 .0)
 
 learn-again-requires : tie.Need-learn-again-requires Inv-loop μ-loop
 learn-again-requires c κs = let l = c .before .before .before .before in
-    let s = l .before .before .before .before .before .before .before .before in
+    let s = l .before .before .before .before .before .before .before .before .before in
     (s .pre .0, (l .loop .inv .2, ((s .pre .1 .1 .0 .0, rw (l .loop .inv .1) (s .pre .1 .1 .0 .1)), omega (arith, s .pre .1 .1 .1))))
 
 add-j : tie.Need-add-j Inv-loop μ-loop

@@ -7,10 +7,13 @@ use Rattle.slots.proofs.uses.free_slot.Statement.{statement}
 use Rattle.slots.proofs.uses.free_slot.Tie as tie
 
 abbrev Inv-loop : tie.InvT-loop
-Inv-loop p marks last uses slots k j slot₀ slot = (0 < slot) × (slot ≤ slots)
+Inv-loop p marks last uses slots k j least slot₀ slot = (0 < slot) × (slot ≤ slots)
 
 abbrev μ-loop : tie.MeasureT-loop
-μ-loop p marks last uses slots k j slot₀ slot = slots - slot
+μ-loop p marks last uses slots k j least slot₀ slot = slots - slot
+
+least-use-requires : tie.Need-least-use-requires Inv-loop μ-loop
+least-use-requires c κs = search needs
 
 loop-holds : tie.Need-loop-holds Inv-loop μ-loop
 loop-holds c = (omega arith, search needs)
@@ -48,6 +51,7 @@ free-slot-spec =
     (tie.spec
     Inv-loop
     μ-loop
+    least-use-requires
     loop-holds
     path-in-requires
     cast-if1

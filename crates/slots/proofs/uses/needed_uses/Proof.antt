@@ -9,10 +9,10 @@ use Rattle.slots.proofs.uses.needed_uses.Statement.{statement}
 use Rattle.slots.proofs.uses.needed_uses.Tie as tie
 
 abbrev Inv-loop : tie.InvT-loop
-Inv-loop p k uses₀ j₀ uses j = j ≤ k
+Inv-loop p marks k uses₀ j₀ uses j = j ≤ k
 
 abbrev μ-loop : tie.MeasureT-loop
-μ-loop p k uses₀ j₀ uses j = j
+μ-loop p marks k uses₀ j₀ uses j = j
 
 refer-to-parts-requires : tie.Need-refer-to-parts-requires Inv-loop μ-loop
 refer-to-parts-requires c κs = let s = c .before .before in omega (arith, valid _ _ (s .pre .0) .header .length-is, s .pre .1)
@@ -23,22 +23,19 @@ loop-holds c = le-refl _
 sub-j : tie.Need-sub-j Inv-loop μ-loop
 sub-j c = search needs
 
+is-lost-requires : tie.Need-is-lost-requires Inv-loop μ-loop
+is-lost-requires c κs = let l = c .before in
+    let s = l .before .before .before .before in
+    omega (arith, valid _ _ (s .pre .0) .header .length-is, s .pre .1, l .loop .inv)
+
 cast-if1 : tie.Need-cast-if1 Inv-loop μ-loop
 cast-if1 c = search needs
 
 element-copy-out-if1 : tie.Need-element-copy-out-if1 Inv-loop μ-loop
 element-copy-out-if1 c = search needs
 
-sort-at-requires : tie.Need-sort-at-requires Inv-loop μ-loop
-sort-at-requires c κs = let l = c .before .before in
-    let s = l .before .before .before .before in
-    omega (arith, valid _ _ (s .pre .0) .header .length-is, s .pre .1, l .loop .inv)
-
-is-path-requires : tie.Need-is-path-requires Inv-loop μ-loop
-is-path-requires c κs = search needs
-
 refer-to-parts-requires-2 : tie.Need-refer-to-parts-requires-2 Inv-loop μ-loop
-refer-to-parts-requires-2 c κs = let l = c .before .before .before .before .before .before in
+refer-to-parts-requires-2 c κs = let l = c .before .before .before .before .before in
     let s = l .before .before .before .before in
     omega (arith, valid _ _ (s .pre .0) .header .length-is, s .pre .1, l .loop .inv)
 
@@ -66,10 +63,9 @@ needed-uses-spec =
     refer-to-parts-requires
     loop-holds
     sub-j
+    is-lost-requires
     cast-if1
     element-copy-out-if1
-    sort-at-requires
-    is-path-requires
     refer-to-parts-requires-2
     loop-less
     loop-again
