@@ -1,15 +1,15 @@
-//! Paths and the slots of their rows, as `generate::rows` has them: what an input shows of paths that lose theirs. And
-//! values that share a bucket.
+//! Paths and the slots of their rows, as `generate::rows` has them: what an input shows of paths that lose theirs and
+//! get them back. And values that share a bucket.
 
 use super::limits::{Judged, Limit};
 use crate::generate::input::{Input, Operation};
 use crate::generate::models::BUCKETS;
-use crate::generate::rows::{FEW, MOST, ROW, Slots, bytes, paths_of, paths_reached};
+use crate::generate::rows::{FEW, Giving, Learning, MOST, ROW, Slots, bytes, paths_of, paths_reached};
 use oracle::finding::Finding;
 use oracle::pattern::{self, Entry, MAX_CHANNEL, Path, Pattern};
 use std::iter::zip;
 
-pub const ROWS: [Limit; 44] = [
+pub const ROWS: [Limit; 63] = [
     ("small judgement", |it| it.kept(|kept| kept.is_small())),
     ("small judgement without room for another path", |it| {
         it.kept(|kept| {
@@ -38,7 +38,6 @@ pub const ROWS: [Limit; 44] = [
     ("path given the slot of one of two that are used again last", |it| {
         it.given(|slot| slot.given == Given::Taken && slot.of_two)
     }),
-    ("path given the slot of the one that it goes on by", |it| it.given(|slot| slot.given == Given::OfRest)),
     ("first slot taken from a path that is used again", |it| {
         it.given(|slot| slot.given == Given::Taken && slot.number == 1)
     }),
@@ -50,26 +49,70 @@ pub const ROWS: [Limit; 44] = [
     }),
     ("path that had rows when another lost its own compared by them", |it| it.kept(Kept::keeps_another)),
     ("path with rows used after more others than slots", |it| it.kept(Kept::keeps_an_old_path)),
-    ("path passed over, as one that it goes on by lost its rows", |it| {
+    ("path that lost its rows brought back for a comparison", |it| {
+        it.brought_back(|of, slot| of.compares(|_| true) && of.refers_to(slot) && slot.had_rows)
+    }),
+    ("path that lost its rows brought back for a path that goes on by it", |it| {
+        it.brought_back(|of, slot| of.has_rows() && of.refers_to(slot) && slot.had_rows)
+    }),
+    ("path brought back, which is a step", |it| it.restored(|entry| matches!(entry, Entry::Step(..)))),
+    ("path brought back, which is a jump", |it| it.restored(|entry| matches!(entry, Entry::Jump(..)))),
+    ("path brought back, which is a test", |it| it.restored(|entry| matches!(entry, Entry::Test(..)))),
+    ("path brought back, which is a fork", |it| it.restored(|entry| matches!(entry, Entry::Fork(..)))),
+    ("path brought back, which is entry 0", |it| it.brought_back(|_, slot| slot.path == 0)),
+    ("path brought back with the two below it by which it goes on", |it| {
+        it.kept(|kept| kept.learned.iter().any(|of| of.longest_chain(&kept.pattern) >= 3))
+    }),
+    ("path brought back into a slot that nobody has", |it| {
+        it.brought_back(|_, slot| slot.given == Given::Nobodys)
+    }),
+    ("path brought back into the slot of one that isn't used any longer", |it| {
+        it.brought_back(|_, slot| slot.given == Given::Unused)
+    }),
+    ("path brought back into the slot of the one that is used again last", |it| {
+        it.brought_back(|_, slot| slot.given == Given::Taken)
+    }),
+    ("path given the slot of the one that it goes on by, for an entry that needs it", |it| {
+        it.learned(|of| of.back.iter().any(|slot| slot.given == Given::OfRest))
+    }),
+    ("path brought back that loses its rows before the entry has them", |it| {
+        it.learned(|of| of.filled().any(|slot| of.loses(slot)))
+    }),
+    ("path brought back again and again", |it| it.kept(Kept::brings_back_repeatedly)),
+    ("path brought back compared with one that kept its rows", |it| {
+        it.compared(|ends| ends.contains(&Ends::Back) && ends.contains(&Ends::Rows))
+    }),
+    ("two paths brought back compared", |it| {
+        it.learned(|of| of.compares(|ends| ends == [Ends::Back; 2]) && of.paths[0] != of.paths[1])
+    }),
+    ("path brought back compared with itself", |it| {
+        it.learned(|of| of.compares(|ends| ends == [Ends::Back; 2]) && of.paths[0] == of.paths[1])
+    }),
+    ("path brought back compared with the end of path", |it| {
+        it.compared(|ends| ends.contains(&Ends::Own) && ends.contains(&Ends::Back))
+    }),
+    ("fork of a path brought back and one that kept its rows", |it| {
+        it.learned(|of| of.is_fork() && of.ends.contains(&Ends::Back) && of.ends.contains(&Ends::Rows))
+    }),
+    ("fork of two paths brought back", |it| {
+        it.learned(|of| of.is_fork() && of.ends == [Ends::Back; 2] && of.paths[0] != of.paths[1])
+    }),
+    ("path passed over, as one that it goes on by isn't brought back", |it| {
         it.learned(|of| of.is_passed_over() && of.ends.contains(&Ends::Lost))
     }),
     ("path passed over, as one that it goes on by never had rows", |it| {
         it.learned(|of| of.is_passed_over() && of.ends.contains(&Ends::Never))
     }),
-    ("path passed over where a slot is free", |it| it.learned(|of| of.is_passed_over() && of.has_free_slot)),
-    ("path passed over where all slots are in use", |it| {
-        it.learned(|of| of.is_passed_over() && !of.has_free_slot)
-    }),
     ("path given rows after another was passed over", |it| it.kept(Kept::goes_on_after_passing_over)),
-    ("path that lost its rows compared, met", |it| {
+    ("path that lost its rows compared without, met", |it| {
         it.compared(|ends| ends.contains(&Ends::Lost)) && it.finding != Finding::Unmet
     }),
-    ("path that lost its rows compared, unmet", |it| {
+    ("path that lost its rows compared without, unmet", |it| {
         it.compared(|ends| ends.contains(&Ends::Lost)) && it.finding == Finding::Unmet
     }),
-    ("path that never had rows compared", |it| it.compared(|ends| ends.contains(&Ends::Never))),
+    ("path that never had rows compared without", |it| it.compared(|ends| ends.contains(&Ends::Never))),
     ("path without rows compared with one that has them", |it| {
-        it.compared(|ends| ends.contains(&Ends::Rows) && ends.iter().any(Ends::are_swept))
+        it.compared(|ends| ends.iter().any(Ends::are_rows) && ends.iter().any(Ends::are_swept))
     }),
     ("two paths without rows compared", |it| {
         it.learned(|of| of.compares(|ends| ends.iter().all(Ends::are_swept)) && of.paths[0] != of.paths[1])
@@ -84,7 +127,15 @@ pub const ROWS: [Limit; 44] = [
         it.compared(|ends| ends.contains(&Ends::Own) && ends.contains(&Ends::Rows))
     }),
     ("end of path compared with itself", |it| it.compared(|ends| ends == [Ends::Own; 2])),
-    ("path without rows that leads through a test compared", |it| it.kept(Kept::sweeps_a_test)),
+    ("path without rows that leads through a test compared", |it| {
+        it.kept(|kept| kept.sweeps(|entry| matches!(entry, Entry::Test(..))))
+    }),
+    ("path without rows that leads through a fork compared", |it| {
+        it.kept(|kept| kept.sweeps(|entry| matches!(entry, Entry::Fork(..))))
+    }),
+    ("path without rows that leads through a jump compared", |it| {
+        it.kept(|kept| kept.sweeps(|entry| matches!(entry, Entry::Jump(..))))
+    }),
     ("test of a comparison of a path without rows", |it| it.kept(Kept::tests_a_swept_comparison)),
     ("step before a path without rows passed over", |it| {
         it.passed_over(|entry| matches!(entry, Entry::Step(..)))
@@ -120,15 +171,21 @@ enum Ends {
     /// Those of the end of path.
     Own,
     Rows,
+    /// By rows that were brought back for the entry.
+    Back,
     /// Anew, as it lost its rows.
     Lost,
-    /// Anew, as it is built on a path without rows.
+    /// Anew, as it never had rows.
     Never,
 }
 
 impl Ends {
     fn are_swept(&self) -> bool {
         matches!(self, Ends::Lost | Ends::Never)
+    }
+
+    fn are_rows(&self) -> bool {
+        matches!(self, Ends::Rows | Ends::Back)
     }
 }
 
@@ -140,20 +197,30 @@ enum Given {
     Unused,
     /// That of the path that is used again last, by which it doesn't go on.
     Taken,
-    /// That of the path that is used again last, by which it goes on, so that neither has rows.
+    /// That of a path by which it goes on, so that neither has rows.
     OfRest,
 }
 
 /// The slot that a path is given.
 struct Slot {
+    path: usize,
     number: usize,
     given: Given,
     /// The path that had it.
-    holder: Option<usize>,
+    holder: Path,
     /// Whether another path is used again by the same entry as that one.
     of_two: bool,
-    /// Whether the path goes on by one that no entry behind it uses.
+    /// Whether the path goes on by one that isn't used behind the entry for which it is learned.
     last_of_rest: bool,
+    /// Whether the path had rows before.
+    had_rows: bool,
+}
+
+impl Slot {
+    /// Whether the path has its rows there.
+    fn is_filled(&self) -> bool {
+        self.given != Given::OfRest
+    }
 }
 
 /// An entry that the root reaches, when it is learned.
@@ -163,8 +230,8 @@ struct Learned {
     /// The paths that it compares or goes on by, and how their ends are had.
     paths: Vec<Path>,
     ends: Vec<Ends>,
-    /// Whether a slot is free.
-    has_free_slot: bool,
+    /// The slots of the paths that are learned again for it.
+    back: Vec<Slot>,
     /// The slot that it is given, if it is a path that isn't passed over.
     slot: Option<Slot>,
 }
@@ -182,20 +249,102 @@ impl Learned {
         self.entry.is_path() && self.slot.is_none()
     }
 
-    /// Whether it is given a slot and keeps it.
     fn has_rows(&self) -> bool {
-        self.slot.as_ref().is_some_and(|slot| slot.given != Given::OfRest)
+        self.slot.as_ref().is_some_and(Slot::is_filled)
     }
 
     /// Whether another path, which is used again, loses its rows.
     fn takes(&self) -> bool {
-        self.slot.as_ref().is_some_and(|slot| matches!(slot.given, Given::Taken | Given::OfRest))
+        self.slot.as_ref().is_some_and(|slot| slot.given == Given::Taken)
     }
 
-    /// The paths that it refers to and that have rows.
-    fn with_rows(&self) -> impl Iterator<Item = usize> {
-        let with_rows = zip(&self.paths, &self.ends).filter(|(_, ends)| **ends == Ends::Rows);
-        with_rows.filter_map(|(path, _)| *path)
+    /// The paths that it refers to and whose ends are had so.
+    fn with(&self, are_such: impl Fn(&Ends) -> bool) -> impl Iterator<Item = usize> {
+        let such = zip(&self.paths, &self.ends).filter(move |(_, ends)| are_such(ends));
+        such.filter_map(|(path, _)| *path)
+    }
+
+    /// The slots of the paths that get their rows back for it.
+    fn filled(&self) -> impl Iterator<Item = &Slot> {
+        self.back.iter().filter(|slot| slot.is_filled())
+    }
+
+    /// Whether it refers to the path of the slot.
+    fn refers_to(&self, slot: &Slot) -> bool {
+        self.paths.contains(&Some(slot.path))
+    }
+
+    /// Whether another path that is learned again for it takes the slot.
+    fn loses(&self, slot: &Slot) -> bool {
+        self.back.iter().any(|other| other.holder == Some(slot.path) && other.path > slot.path)
+    }
+
+    /// The most paths brought back for it of which each goes on by the one before.
+    fn longest_chain(&self, pattern: &Pattern) -> usize {
+        let mut lengths = vec![0; pattern.entries.len()];
+        for slot in self.filled() {
+            let rests = paths_of(&pattern.entries[slot.path]).into_iter().flatten();
+            lengths[slot.path] = 1 + rests.map(|rest| lengths[rest]).max().unwrap_or(0);
+        }
+        lengths.into_iter().max().unwrap_or(0)
+    }
+}
+
+/// The slots, and what was seen of them.
+struct Watched {
+    slots: Slots,
+    had_rows: Vec<bool>,
+    /// Those that were given for the entry that is learned.
+    given: Vec<Slot>,
+}
+
+impl Learning for Watched {
+    fn slots(&self) -> &Slots {
+        &self.slots
+    }
+
+    fn fill(&mut self, giving: Giving) {
+        let Giving { path, entry, slot: number, is_free } = giving;
+        let (slots, rests) = (&self.slots, self.slots.paths_of(path));
+        let holder = slots.holder(number);
+        let given = match holder {
+            None => Given::Nobodys,
+            _ if rests.contains(&holder) => Given::OfRest,
+            _ if is_free => Given::Unused,
+            _ => Given::Taken,
+        };
+        let next_use = |path: usize| slots.next_use(path, entry);
+        let as_late = |path: &usize| holder.map(next_use) == Some(next_use(*path));
+        let of_two = given == Given::Taken && slots.holders().filter(as_late).count() == 2;
+        let last_of_rest = rests.iter().flatten().any(|&rest| !slots.is_used(rest, entry + 1));
+        let had_rows = self.had_rows[path];
+        self.given.push(Slot { path, number, given, holder, of_two, last_of_rest, had_rows });
+        self.slots.fill(giving);
+        self.had_rows[path] |= self.slots.hold(Some(path));
+    }
+}
+
+impl Watched {
+    /// Learns an entry that the root reaches.
+    fn watch(&mut self, number: usize, entry: Entry) -> Learned {
+        self.learn(number);
+        let slot = self.given.pop_if(|slot| slot.path == number);
+        let back = std::mem::take(&mut self.given);
+        let ends = |path: &Path| match *path {
+            None => Ends::Own,
+            Some(path) if self.slots.hold(Some(path)) => {
+                if back.iter().any(|slot| slot.path == path) {
+                    Ends::Back
+                } else {
+                    Ends::Rows
+                }
+            }
+            Some(path) if self.had_rows[path] => Ends::Lost,
+            _ => Ends::Never,
+        };
+        let paths = paths_of(&entry);
+        let ends = paths.iter().map(ends).collect();
+        Learned { number, entry, paths, ends, back, slot }
     }
 }
 
@@ -224,33 +373,21 @@ impl Kept {
     }
 
     fn new(pattern: Pattern, nodes: usize) -> Kept {
-        let mut slots = Slots::new(&pattern, nodes);
-        let mut had_rows = vec![false; pattern.entries.len()];
+        let slots = Slots::new(&pattern, nodes);
+        let mut watched = Watched { slots, had_rows: vec![false; pattern.entries.len()], given: Vec::new() };
         let (mut learned, mut in_use) = (Vec::new(), 0);
         let mut paths_learned: Vec<usize> = Vec::new();
         for (number, _) in zip(0.., pattern.reached()).filter(|(_, reached)| *reached) {
             let entry = pattern.entries[number];
-            let paths = paths_of(&entry);
-            let ends = |path: &Path| match *path {
-                None => Ends::Own,
-                path if slots.hold(path) => Ends::Rows,
-                Some(path) if had_rows[path] => Ends::Lost,
-                _ => Ends::Never,
-            };
-            let ends = paths.iter().map(ends).collect();
-            let has_free_slot = slots.free(number).is_some();
-            let learns = entry.is_path() && !slots.pass_over(&entry);
-            let slot = learns.then(|| learn(&mut slots, number, &paths));
-            had_rows[number] = slots.hold(Some(number));
+            learned.push(watched.watch(number, entry));
             if entry.is_path() {
-                paths_learned.retain(|&path| slots.is_used(path, number));
+                paths_learned.retain(|&path| watched.slots.is_used(path, number));
                 paths_learned.push(number);
                 in_use = in_use.max(paths_learned.len());
             }
-            learned.push(Learned { number, entry, paths, ends, has_free_slot, slot });
         }
         let reached = paths_reached(&pattern);
-        Kept { pattern, nodes, slots: slots.count(), reached, in_use, learned }
+        Kept { pattern, nodes, slots: watched.slots.count(), reached, in_use, learned }
     }
 
     pub fn pattern(&self) -> &Pattern {
@@ -289,14 +426,19 @@ impl Kept {
             others.filter(|other| (path + 1..of.number).contains(&other.number)).count()
         };
         self.reached > self.slots
-            && self.learned.iter().any(|of| of.with_rows().any(|path| since(path, of) >= self.slots))
+            && self
+                .learned
+                .iter()
+                .any(|of| of.with(|ends| *ends == Ends::Rows).any(|path| since(path, of) >= self.slots))
     }
 
     /// Whether a path is compared by its rows that it had when another, which was used again, lost its own.
     fn keeps_another(&self) -> bool {
         let Some(takes) = self.learned.iter().find(|of| of.takes()) else { return false };
         let mut behind = self.learned.iter().filter(|of| of.number > takes.number);
-        behind.any(|of| of.compares(|_| true) && of.with_rows().any(|path| path < takes.number))
+        behind.any(|of| {
+            of.compares(|_| true) && of.with(|ends| *ends == Ends::Rows).any(|path| path < takes.number)
+        })
     }
 
     fn goes_on_after_passing_over(&self) -> bool {
@@ -308,23 +450,30 @@ impl Kept {
         self.learned.iter().filter_map(|of| of.slot.as_ref()).any(shows)
     }
 
-    /// Whether a path is compared that has no rows and leads through a test.
-    fn sweeps_a_test(&self) -> bool {
+    /// Whether a path is brought back for three entries or more.
+    fn brings_back_repeatedly(&self) -> bool {
+        let mut times = vec![0; self.pattern.entries.len()];
+        self.learned.iter().flat_map(Learned::filled).for_each(|slot| times[slot.path] += 1);
+        times.into_iter().any(|times| times >= 3)
+    }
+
+    /// Whether a path is compared that has no rows and leads through such an entry.
+    fn sweeps(&self, is_such: fn(&Entry) -> bool) -> bool {
         self.learned.iter().any(|of| {
-            let mut swept = zip(&of.paths, &of.ends).filter(|(_, ends)| ends.are_swept());
-            matches!(of.entry, Entry::Compare(..)) && swept.any(|(path, _)| self.leads_through_a_test(*path))
+            matches!(of.entry, Entry::Compare(..))
+                && of.with(Ends::are_swept).any(|path| self.leads_through(path, is_such))
         })
     }
 
-    fn leads_through_a_test(&self, path: Path) -> bool {
+    fn leads_through(&self, path: usize, is_such: fn(&Entry) -> bool) -> bool {
         let mut met = vec![false; self.pattern.entries.len()];
-        let mut ahead = vec![path];
+        let mut ahead = vec![Some(path)];
         while let Some(path) = ahead.pop() {
             let Some(entry) = path.filter(|&entry| !met[entry]) else { continue };
             met[entry] = true;
             ahead.extend(paths_of(&self.pattern.entries[entry]));
         }
-        zip(met, &self.pattern.entries).any(|(met, entry)| met && matches!(entry, Entry::Test(..)))
+        zip(met, &self.pattern.entries).any(|(met, entry)| met && is_such(entry))
     }
 
     fn tests_a_swept_comparison(&self) -> bool {
@@ -360,23 +509,6 @@ impl Kept {
     }
 }
 
-/// Learns a path entry that goes on by these paths, which have rows: the slot that it is given.
-fn learn(slots: &mut Slots, entry: usize, rests: &[Path]) -> Slot {
-    let number = slots.next(entry);
-    let holder = slots.holder(number);
-    let given = match holder {
-        None => Given::Nobodys,
-        Some(path) if !slots.is_used(path, entry) => Given::Unused,
-        holder if rests.contains(&holder) => Given::OfRest,
-        _ => Given::Taken,
-    };
-    let next_use = |path: usize| slots.next_use(path, entry);
-    let as_late = slots.holders().filter(|&path| holder.map(next_use) == Some(next_use(path))).count();
-    let last_of_rest = rests.iter().flatten().any(|&rest| next_use(rest).is_none());
-    slots.give(number, (given != Given::OfRest).then_some(entry));
-    Slot { number, given, holder, of_two: as_late == 2, last_of_rest }
-}
-
 impl Judged<'_> {
     /// Whether a model was judged and what was kept of the paths shows it.
     fn kept(&self, shows: impl Fn(&Kept) -> bool) -> bool {
@@ -390,6 +522,21 @@ impl Judged<'_> {
     /// Whether paths were compared whose ends are had so.
     fn compared(&self, shows: impl Fn(&[Ends]) -> bool) -> bool {
         self.learned(|of| of.compares(&shows))
+    }
+
+    /// Whether a path got its rows back for an entry so.
+    fn brought_back(&self, shows: impl Fn(&Learned, &Slot) -> bool) -> bool {
+        self.learned(|of| of.filled().any(|slot| shows(of, slot)))
+    }
+
+    /// Whether such a path got its rows back.
+    fn restored(&self, is_such: impl Fn(&Entry) -> bool) -> bool {
+        self.kept(|kept| {
+            kept.learned
+                .iter()
+                .flat_map(Learned::filled)
+                .any(|slot| is_such(&kept.pattern.entries[slot.path]))
+        })
     }
 
     /// Whether such a path was passed over.

@@ -1,5 +1,5 @@
 //! Patterns of many paths, which wait for the time when all are there to be used once more. Of those that are used last
-//! some have lost their rows by then.
+//! some have lost their rows by then, and a fork of more than have rows at once doesn't get its own back.
 
 use super::patterns::Vocabulary;
 use super::rows::{FEW, MANY, ROW, slot_count};
@@ -73,11 +73,15 @@ pub fn many(random: &mut Random, vocabulary: Vocabulary, size: Size) -> Pattern 
     if size.more && !making.random.once_in(4) {
         making.use_again();
     }
-    let forks = size.more && making.random.once_in(2);
-    making.use_due(forks);
+    if size.more && making.random.once_in(2) {
+        making.fork_due();
+        making.use_fork();
+    } else {
+        making.use_due();
+    }
     if size.more {
         making.use_again();
-        making.use_due(false);
+        making.use_due();
     }
     making.join();
     if making.random.once_in(8) {
@@ -104,12 +108,20 @@ struct Making<'r> {
 }
 
 impl Making<'_> {
-    /// The paths that a pattern begins with, after a few nodes that they test.
+    /// The paths that a pattern begins with, after a few nodes that they test. As often as not the first are one path,
+    /// from entry 0 on.
     fn begin(&mut self, size: Size) {
+        let parts = if self.random.once_in(2) { self.random.between(1, 12) } else { 0 };
+        if parts > 0 {
+            self.add_path(None);
+        }
         for property in 0..3 {
             self.add(Entry::Property(property));
         }
-        self.add(Entry::Not(0));
+        self.add(Entry::Not(self.nodes[0]));
+        while self.paths.len() < parts {
+            self.add_path(self.paths.last().copied());
+        }
         while self.paths.len() < size.passed {
             self.due.clear();
             self.add_path(self.paths.last().copied());
@@ -128,16 +140,15 @@ impl Making<'_> {
             let old = self.old();
             match self.random.below(4) {
                 0 => {
-                    let others = [old, None, self.old()];
-                    let other = self.random.pick(&others);
-                    self.compare(old, other);
+                    let (ones, others) = ([old, self.recent()], [old, None, self.old(), self.recent()]);
+                    let (one, other) = (self.random.pick(&ones), self.random.pick(&others));
+                    self.compare(one, other);
                     continue;
                 }
                 1 => self.add_path(old),
                 2 => {
-                    let few = self.paths.len().min(4);
-                    let rest = self.random.pick(&self.paths[self.paths.len() - few..]);
-                    self.add_path(Some(rest));
+                    let recent = self.recent();
+                    self.add_path(recent);
                 }
                 _ => {
                     let axis = self.axis();
@@ -156,14 +167,40 @@ impl Making<'_> {
         }
     }
 
-    /// Uses the paths that are due, in comparisons or in one fork of all.
-    fn use_due(&mut self, forks: bool) {
-        while forks && self.due.len() > 1 {
+    /// Uses the paths that are due, in comparisons, mostly of two.
+    fn use_due(&mut self) {
+        while !self.due.is_empty() {
+            let one = self.take_due();
+            let is_alone = self.room() > 4 && self.random.once_in(8);
+            let other = if is_alone { self.random.pick(&[one, None]) } else { self.take_due() };
+            self.compare(one, other);
+        }
+    }
+
+    /// Uses the paths that are due, in one fork of all or of most.
+    fn fork_due(&mut self) {
+        let left = self.random.pick(&[1, 1, 4, 12]);
+        while self.due.len() > left {
             let (one, other) = (self.take_due(), self.take_due());
             self.add(Entry::Fork(one, other));
         }
-        while !self.due.is_empty() {
-            let (one, other) = (self.take_due(), self.take_due());
+    }
+
+    /// Adds a few entries on the last path, the fork, and on those that go on by it.
+    fn use_fork(&mut self) {
+        let fork = self.paths.last().copied();
+        for _ in 0..self.random.below(8) {
+            if self.room() < 8 {
+                break;
+            }
+            match self.random.below(4) {
+                0 => self.add_path(fork),
+                1 => self.add(Entry::Test(self.nodes[self.nodes.len() - 1], fork)),
+                _ => {}
+            }
+            let others = [fork, None, self.old(), self.recent()];
+            let (one, other) =
+                (self.random.pick(&[fork, self.paths.last().copied()]), self.random.pick(&others));
             self.compare(one, other);
         }
     }
@@ -219,7 +256,7 @@ impl Making<'_> {
         let name = self.random.below(self.vocabulary.names) as u8;
         let entry = match self.random.below(8) {
             0 => Entry::Jump(name, rest),
-            1 | 2 => Entry::Test(self.tested(), rest),
+            1 | 2 if !self.nodes.is_empty() => Entry::Test(self.tested(), rest),
             3 | 4 if rest.is_some() => Entry::Fork(rest, self.old()),
             _ => Entry::Step(axis, rest),
         };
@@ -236,6 +273,12 @@ impl Making<'_> {
     fn old(&mut self) -> Path {
         let few = if self.random.once_in(4) { self.paths.len() } else { self.paths.len().min(16) };
         Some(self.random.pick(&self.paths[..few]))
+    }
+
+    /// One of the last paths.
+    fn recent(&mut self) -> Path {
+        let few = self.paths.len().min(4);
+        Some(self.random.pick(&self.paths[self.paths.len() - few..]))
     }
 
     /// The path whose slot the next path takes, if all are in use and none is used meanwhile.

@@ -5,7 +5,7 @@ use oracle::model::{self, Model};
 use oracle::pattern::{self, Comparison, Entry, Path, Pattern};
 use trial::differential::implementation::{Lent, run_oracle};
 use trial::generate::input::Operation;
-use trial::generate::rows::{Slots, paths_of};
+use trial::generate::rows::{Giving, Learning, Slots};
 
 /// A set of nodes: bit u for node u.
 type Nodes = u64;
@@ -13,11 +13,17 @@ type Nodes = u64;
 /// How it keeps rows, and what it does without.
 #[derive(Clone, Copy)]
 pub struct Keeper {
-    /// The slot for a path entry.
+    /// The slot for a path entry, instead of this one.
     next: fn(&Slots, usize) -> usize,
+    /// The path entry whose rows a path gets that is learned for an entry behind it.
+    brought_back: fn(&Judge, usize) -> usize,
+    /// The slot whose rows it takes for a path that one learned so goes on by.
+    back_on: fn(&Judge, Path) -> Option<usize>,
+    /// Whether the rows of a path learned so are filled.
+    fills_again: bool,
     /// Whether a slot has nobody's rows while it is filled.
     empties: bool,
-    /// The slot whose rows it takes for a path that another goes on by.
+    /// The slot whose rows it takes for a path that another, learned for itself, goes on by.
     built_on: fn(&Judge, Path) -> Option<usize>,
     /// Whether a path that is passed over is given a slot, which isn't filled.
     gives_anyway: bool,
@@ -38,7 +44,10 @@ pub struct Keeper {
 }
 
 pub const RIGHT: Keeper = Keeper {
-    next: Slots::next,
+    next: |_, slot| slot,
+    brought_back: |_, path| path,
+    back_on: |judge, path| judge.slots.of(path),
+    fills_again: true,
     empties: true,
     built_on: |judge, path| judge.slots.of(path),
     gives_anyway: false,
@@ -53,7 +62,7 @@ pub const RIGHT: Keeper = Keeper {
 
 pub type Mistake = (&'static str, Keeper);
 
-pub const MISTAKES: [Mistake; 26] = [
+pub const MISTAKES: [Mistake; 30] = [
     (
         "a path that lost its rows is compared by those in its slot",
         Keeper { compared: |judge, paths, node| paths.map(|path| judge.stale(path, node)), ..RIGHT },
@@ -92,12 +101,25 @@ pub const MISTAKES: [Mistake; 26] = [
         "a path is built on the rows in a slot that another path has",
         Keeper { built_on: |judge, path| Some(judge.given(path)), ..RIGHT },
     ),
+    (
+        "a path is brought back on the rows in a slot that another path has",
+        Keeper { back_on: |judge, path| Some(judge.given(path)), ..RIGHT },
+    ),
+    (
+        "a path brought back has the rows of the one that it goes on by",
+        Keeper { brought_back: |judge, path| judge.rest(path).unwrap_or(path), ..RIGHT },
+    ),
+    (
+        "a path brought back has the rows of the path entry before it",
+        Keeper { brought_back: |judge, path| judge.path_before(path), ..RIGHT },
+    ),
+    ("a path brought back has the rows that were in its slot", Keeper { fills_again: false, ..RIGHT }),
     ("a path that is passed over has the rows of a slot", Keeper { gives_anyway: true, ..RIGHT }),
     ("a path is built on rows that its own overwrite", Keeper { empties: false, ..RIGHT }),
     ("a slot has the rows of the entry behind its path", Keeper { holder: |entry| entry + 1, ..RIGHT }),
     (
         "the slot of the end of path is given to others",
-        Keeper { next: |slots, entry| slots.next(entry) % (slots.count() - 1), ..RIGHT },
+        Keeper { next: |slots, slot| slot % (slots.count() - 1), ..RIGHT },
     ),
     ("the last slot alone is given", Keeper { next: |slots, _| slots.count() - 1, ..STALE }),
     (
@@ -239,9 +261,8 @@ impl<'a> Judge<'a> {
     fn finding(mut self) -> Finding {
         let entries = self.pattern.entries.iter().zip(self.pattern.reached()).enumerate();
         for (number, (entry, _)) in entries.filter(|(_, (_, reached))| *reached) {
-            if entry.is_path() {
-                self.learn(number, entry);
-            } else {
+            self.learn(number);
+            if !entry.is_path() {
                 self.holds[number] = self.nodes_where(|node| self.holds_at(entry, node));
             }
         }
@@ -251,31 +272,20 @@ impl<'a> Judge<'a> {
         }
     }
 
-    /// Gives a path its rows, if it is built on paths that have theirs, also when it has a slot.
-    fn learn(&mut self, number: usize, entry: &Entry) {
-        if self.built_on(entry).is_none() && !self.keeper.gives_anyway {
-            return;
-        }
-        let slot = (self.keeper.next)(&self.slots, number);
-        if self.keeper.empties {
-            self.slots.give(slot, None);
-        }
-        let rests = self.built_on(entry);
-        if let Some(rests) = &rests {
-            let whole = (self.keeper.whole)(self, rests[0]);
-            for node in 0..self.model.nodes.len() {
-                self.rows[slot][node] = self.row(entry, rests, whole, [slot, node]);
-            }
-        }
-        if rests.is_some() || self.keeper.gives_anyway {
-            self.slots.give(slot, Some((self.keeper.holder)(number)));
-            self.given[number] = slot;
-        }
+    /// The slots of the paths that a path goes on by, which is learned for itself or for another entry.
+    fn built_on(&self, path: usize, for_itself: bool) -> Option<Vec<usize>> {
+        let slot = if for_itself { self.keeper.built_on } else { self.keeper.back_on };
+        self.slots.paths_of(path).into_iter().map(|path| slot(self, path)).collect()
     }
 
-    /// The slots of the paths that a path goes on by.
-    fn built_on(&self, entry: &Entry) -> Option<Vec<usize>> {
-        paths_of(entry).into_iter().map(|path| (self.keeper.built_on)(self, path)).collect()
+    /// The path entry by which a path goes on, the first of two.
+    fn rest(&self, path: usize) -> Path {
+        self.slots.paths_of(path).into_iter().flatten().next()
+    }
+
+    /// The last path entry before a path, or the path if there is none.
+    fn path_before(&self, path: usize) -> usize {
+        (0..path).rev().find(|&before| self.pattern.entries[before].is_path()).unwrap_or(path)
     }
 
     /// The row at this place of a path that goes on by the paths of these slots.
@@ -398,6 +408,37 @@ impl<'a> Judge<'a> {
 
     fn union(&self, nodes: Nodes, of_node: impl Fn(usize) -> Nodes) -> Nodes {
         members(nodes).fold(0, |union, node| union | of_node(node))
+    }
+}
+
+impl Learning for Judge<'_> {
+    fn slots(&self) -> &Slots {
+        &self.slots
+    }
+
+    fn passes_over(&self, path: usize, entry: usize) -> bool {
+        self.built_on(path, path == entry).is_none() && !self.keeper.gives_anyway
+    }
+
+    /// Gives a path its rows, if it is built on paths that have theirs, also when it has a slot.
+    fn fill(&mut self, Giving { path, entry, slot, .. }: Giving) {
+        let slot = (self.keeper.next)(&self.slots, slot);
+        if self.keeper.empties {
+            self.slots.give(slot, None);
+        }
+        let for_itself = path == entry;
+        let filled = if for_itself { path } else { (self.keeper.brought_back)(self, path) };
+        let rests = self.built_on(filled, for_itself);
+        if let Some(rests) = rests.as_ref().filter(|_| for_itself || self.keeper.fills_again) {
+            let whole = (self.keeper.whole)(self, rests[0]);
+            for node in 0..self.model.nodes.len() {
+                self.rows[slot][node] = self.row(&self.pattern.entries[filled], rests, whole, [slot, node]);
+            }
+        }
+        if rests.is_some() || self.keeper.gives_anyway {
+            self.slots.give(slot, Some((self.keeper.holder)(path)));
+            self.given[path] = slot;
+        }
     }
 }
 

@@ -94,7 +94,7 @@ pub fn cases() -> Vec<Case> {
         judged("rounds, 41 paths in use", &patterns::rounds_of_a_kept_path(), LARGE),
         judged("rounds, more in use than slots", &patterns::rounds_beside_lost_paths(8), LARGE),
         apart("the same, a graph in two parts", &patterns::rounds_beside_lost_paths(1)),
-        judged("rounds of a path without rows", &patterns::rounds_of_a_lost_path(8), LARGE),
+        judged("rounds of a path that lost its rows", &patterns::rounds_of_a_lost_path(8), LARGE),
         apart("the same, a graph in two parts", &patterns::rounds_of_a_lost_path(1)),
         apart("254 steps, a graph in two parts", &patterns::long_path(255, 1)),
         apart("false test before 250 steps there", &patterns::false_test(255)),

@@ -294,8 +294,7 @@ pub fn rounds_beside_lost_paths(axes: usize) -> Pattern {
 }
 
 /// A path of steps two more than have rows at once, and another path. All parts are used again, the longest first, and
-/// the whole path last, which loses its rows by that. Behind are rounds of it, in which it is swept again and again:
-/// the dearest that was found.
+/// the whole path last, which loses its rows by that. Behind are rounds of it, before which it gets them back.
 pub fn rounds_of_a_lost_path(axes: usize) -> Pattern {
     let mut entries = Entries::default();
     let path = entries.steps(KEPT + 2, axes);
