@@ -347,6 +347,7 @@ fn the_planted_judges_are_right_without_a_fault() {
     assert!(planted(&|operation, lent| unordered(Edges::right, operation, lent)).is_ok());
     assert!(planted(&|operation, lent| NONE.run(operation, lent)).is_ok());
     assert!(planted(&|operation, lent| rows::RIGHT.run(operation, lent)).is_ok());
+    assert!(planted(&|operation, lent| rows::SWEEPING.run(operation, lent)).is_ok());
     assert!(planted(&|operation, lent| ordering::RIGHT.run(operation, lent)).is_ok());
     assert!(planted(&|operation, lent| ordering::RIGHT.run_judged(operation, lent)).is_ok());
 }

@@ -173,7 +173,7 @@ fn learn_in_slot(
     learn_path(p, table, alike, area, rows, marks, n, j, slot);
 }
 
-// The same of entry j if it is a path that is needed and has no rows.
+// The same of entry j if it is a path without rows that is needed, or used behind k.
 fn learn_again(
     p: &[u8],
     table: &[u8],
@@ -212,7 +212,8 @@ fn learn_again(
     );
 }
 
-// The paths below entry k that it needs get their rows again, in the order of the entries.
+// The paths below entry k without rows that it needs, or that are used behind it, get their rows again, in
+// the order of the entries.
 fn learn_needed(
     p: &[u8],
     table: &[u8],

@@ -8,7 +8,7 @@ use crate::generate::input::Input;
 use oracle::model::{self, MAX_NODES, NodeSet, path_ends};
 use oracle::pattern::{Comparison, Entry, MAX_AXIS};
 
-pub const ENDS: [Limit; 22] = [
+pub const ENDS: [Limit; 21] = [
     ("step from neighbours that lead to the same nodes", |it| {
         it.steps_over(|led| led.neighbours().any(|[one, next]| one == next && one != 0))
     }),
@@ -65,9 +65,6 @@ pub const ENDS: [Limit; 22] = [
             same.any(|compared| found(compared, true) && found(compared, false))
         })
     }),
-    ("same by a node that both paths lead to, one without rows", |it| {
-        it.same(|pair| pair.in_common && pair.is_swept)
-    }),
     ("differ where both paths lead to a node", |it| it.differ(|pair| pair.in_common && pair.found)),
     ("not differ where both paths lead to a node", |it| it.differ(|pair| pair.in_common && !pair.found)),
     ("differ where both paths lead to other nodes", |it| it.differ(|pair| !pair.in_common && pair.found)),
@@ -105,8 +102,6 @@ struct Pair {
     in_common: bool,
     /// Whether they compare so.
     found: bool,
-    /// Whether one of the paths has no rows.
-    is_swept: bool,
 }
 
 impl Led {
@@ -118,7 +113,7 @@ impl Led {
             successors[axis as usize][from as usize] |= 1 << to;
         }
         let ends = path_ends(kept.pattern(), &model);
-        let compared = kept.comparisons().map(|(entry, is_swept)| {
+        let compared = kept.comparisons().map(|entry| {
             let Entry::Compare(comparison, channel, alpha, beta) = *entry else { unreachable!() };
             let value = |node: usize| model.nodes[node].values[channel as usize];
             let from =
@@ -129,7 +124,7 @@ impl Led {
                 let wanted = comparison == Comparison::Same;
                 let found =
                     members(left).any(|one| members(right).any(|other| is_equal(one, other) == wanted));
-                Pair { in_common: left & right != 0, found, is_swept }
+                Pair { in_common: left & right != 0, found }
             };
             let leads_nowhere = lead.clone().any(|[left, right]| (left == 0) != (right == 0));
             let pairs = lead.filter(|ends| !ends.contains(&0)).map(pair).collect();

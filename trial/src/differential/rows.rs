@@ -9,7 +9,7 @@ use oracle::finding::Finding;
 use oracle::pattern::{self, Entry, MAX_CHANNEL, Path, Pattern};
 use std::iter::zip;
 
-pub const ROWS: [Limit; 63] = [
+pub const ROWS: [Limit; 43] = [
     ("small judgement", |it| it.kept(|kept| kept.is_small())),
     ("small judgement without room for another path", |it| {
         it.kept(|kept| {
@@ -69,9 +69,6 @@ pub const ROWS: [Limit; 63] = [
     ("path brought back into the slot of one that isn't used any longer", |it| {
         it.brought_back(|_, slot| slot.given == Given::Unused)
     }),
-    ("path brought back into the slot of the one that is used again last", |it| {
-        it.brought_back(|_, slot| slot.given == Given::Taken)
-    }),
     ("path given the slot of the one that it goes on by, for an entry that needs it", |it| {
         it.learned(|of| of.back.iter().any(|slot| slot.given == Given::OfRest))
     }),
@@ -97,61 +94,10 @@ pub const ROWS: [Limit; 63] = [
     ("fork of two paths brought back", |it| {
         it.learned(|of| of.is_fork() && of.ends == [Ends::Back; 2] && of.paths[0] != of.paths[1])
     }),
-    ("path passed over, as one that it goes on by isn't brought back", |it| {
-        it.learned(|of| of.is_passed_over() && of.ends.contains(&Ends::Lost))
-    }),
-    ("path passed over, as one that it goes on by never had rows", |it| {
-        it.learned(|of| of.is_passed_over() && of.ends.contains(&Ends::Never))
-    }),
-    ("path given rows after another was passed over", |it| it.kept(Kept::goes_on_after_passing_over)),
-    ("path that lost its rows compared without, met", |it| {
-        it.compared(|ends| ends.contains(&Ends::Lost)) && it.finding != Finding::Unmet
-    }),
-    ("path that lost its rows compared without, unmet", |it| {
-        it.compared(|ends| ends.contains(&Ends::Lost)) && it.finding == Finding::Unmet
-    }),
-    ("path that never had rows compared without", |it| it.compared(|ends| ends.contains(&Ends::Never))),
-    ("path without rows compared with one that has them", |it| {
-        it.compared(|ends| ends.iter().any(Ends::are_rows) && ends.iter().any(Ends::are_swept))
-    }),
-    ("two paths without rows compared", |it| {
-        it.learned(|of| of.compares(|ends| ends.iter().all(Ends::are_swept)) && of.paths[0] != of.paths[1])
-    }),
-    ("path without rows compared with itself", |it| {
-        it.learned(|of| of.compares(|ends| ends.iter().all(Ends::are_swept)) && of.paths[0] == of.paths[1])
-    }),
-    ("path without rows compared with the end of path", |it| {
-        it.compared(|ends| ends.contains(&Ends::Own) && ends.iter().any(Ends::are_swept))
-    }),
     ("path with rows compared with the end of path", |it| {
         it.compared(|ends| ends.contains(&Ends::Own) && ends.contains(&Ends::Rows))
     }),
     ("end of path compared with itself", |it| it.compared(|ends| ends == [Ends::Own; 2])),
-    ("path without rows that leads through a test compared", |it| {
-        it.kept(|kept| kept.sweeps(|entry| matches!(entry, Entry::Test(..))))
-    }),
-    ("path without rows that leads through a fork compared", |it| {
-        it.kept(|kept| kept.sweeps(|entry| matches!(entry, Entry::Fork(..))))
-    }),
-    ("path without rows that leads through a jump compared", |it| {
-        it.kept(|kept| kept.sweeps(|entry| matches!(entry, Entry::Jump(..))))
-    }),
-    ("test of a comparison of a path without rows", |it| it.kept(Kept::tests_a_swept_comparison)),
-    ("step before a path without rows passed over", |it| {
-        it.passed_over(|entry| matches!(entry, Entry::Step(..)))
-    }),
-    ("jump before a path without rows passed over", |it| {
-        it.passed_over(|entry| matches!(entry, Entry::Jump(..)))
-    }),
-    ("test before a path without rows passed over", |it| {
-        it.passed_over(|entry| matches!(entry, Entry::Test(..)))
-    }),
-    ("fork of a path with rows and one without passed over", |it| {
-        it.learned(|of| of.is_fork() && of.ends.contains(&Ends::Rows) && of.is_passed_over())
-    }),
-    ("fork of two paths without rows passed over", |it| {
-        it.learned(|of| of.is_fork() && of.ends.iter().all(Ends::are_swept) && of.paths[0] != of.paths[1])
-    }),
     ("slot given away of a path that an entry uses which isn't reached", |it| {
         it.kept(Kept::forgets_what_is_used_unreached)
     }),
@@ -173,20 +119,8 @@ enum Ends {
     Rows,
     /// By rows that were brought back for the entry.
     Back,
-    /// Anew, as it lost its rows.
-    Lost,
-    /// Anew, as it never had rows.
-    Never,
-}
-
-impl Ends {
-    fn are_swept(&self) -> bool {
-        matches!(self, Ends::Lost | Ends::Never)
-    }
-
-    fn are_rows(&self) -> bool {
-        matches!(self, Ends::Rows | Ends::Back)
-    }
+    /// Anew. No input is known for which that is so: what an entry needs is brought back before it.
+    Swept,
 }
 
 /// Whose slot a path is given.
@@ -232,7 +166,7 @@ struct Learned {
     ends: Vec<Ends>,
     /// The slots of the paths that are learned again for it.
     back: Vec<Slot>,
-    /// The slot that it is given, if it is a path that isn't passed over.
+    /// The slot that it is given, if it is a path.
     slot: Option<Slot>,
 }
 
@@ -243,10 +177,6 @@ impl Learned {
 
     fn is_fork(&self) -> bool {
         matches!(self.entry, Entry::Fork(..))
-    }
-
-    fn is_passed_over(&self) -> bool {
-        self.entry.is_path() && self.slot.is_none()
     }
 
     fn has_rows(&self) -> bool {
@@ -339,8 +269,7 @@ impl Watched {
                     Ends::Rows
                 }
             }
-            Some(path) if self.had_rows[path] => Ends::Lost,
-            _ => Ends::Never,
+            _ => Ends::Swept,
         };
         let paths = paths_of(&entry);
         let ends = paths.iter().map(ends).collect();
@@ -404,10 +333,9 @@ impl Kept {
         with_rows.filter_map(axis).collect()
     }
 
-    /// The comparisons that the root reaches, and whether one of the paths has no rows.
-    pub fn comparisons(&self) -> impl Iterator<Item = (&Entry, bool)> {
-        let compared = self.learned.iter().filter(|of| of.compares(|_| true));
-        compared.map(|of| (&of.entry, of.ends.iter().any(Ends::are_swept)))
+    /// The comparisons that the root reaches.
+    pub fn comparisons(&self) -> impl Iterator<Item = &Entry> {
+        self.learned.iter().filter(|of| of.compares(|_| true)).map(|of| &of.entry)
     }
 
     fn is_small(&self) -> bool {
@@ -441,11 +369,6 @@ impl Kept {
         })
     }
 
-    fn goes_on_after_passing_over(&self) -> bool {
-        let mut learned = self.learned.iter();
-        learned.any(Learned::is_passed_over) && learned.any(Learned::has_rows)
-    }
-
     fn given(&self, shows: impl Fn(&Slot) -> bool) -> bool {
         self.learned.iter().filter_map(|of| of.slot.as_ref()).any(shows)
     }
@@ -455,33 +378,6 @@ impl Kept {
         let mut times = vec![0; self.pattern.entries.len()];
         self.learned.iter().flat_map(Learned::filled).for_each(|slot| times[slot.path] += 1);
         times.into_iter().any(|times| times >= 3)
-    }
-
-    /// Whether a path is compared that has no rows and leads through such an entry.
-    fn sweeps(&self, is_such: fn(&Entry) -> bool) -> bool {
-        self.learned.iter().any(|of| {
-            matches!(of.entry, Entry::Compare(..))
-                && of.with(Ends::are_swept).any(|path| self.leads_through(path, is_such))
-        })
-    }
-
-    fn leads_through(&self, path: usize, is_such: fn(&Entry) -> bool) -> bool {
-        let mut met = vec![false; self.pattern.entries.len()];
-        let mut ahead = vec![Some(path)];
-        while let Some(path) = ahead.pop() {
-            let Some(entry) = path.filter(|&entry| !met[entry]) else { continue };
-            met[entry] = true;
-            ahead.extend(paths_of(&self.pattern.entries[entry]));
-        }
-        zip(met, &self.pattern.entries).any(|(met, entry)| met && is_such(entry))
-    }
-
-    fn tests_a_swept_comparison(&self) -> bool {
-        let is_swept = |number: usize| {
-            let compares = |of: &Learned| of.compares(|ends| ends.iter().any(Ends::are_swept));
-            self.learned.iter().any(|of| of.number == number && compares(of))
-        };
-        self.learned.iter().any(|of| matches!(of.entry, Entry::Test(phi, _) if is_swept(phi)))
     }
 
     /// Whether a path is given a slot whose path is still used, but by entries alone that aren't reached.
@@ -537,11 +433,6 @@ impl Judged<'_> {
                 .flat_map(Learned::filled)
                 .any(|slot| is_such(&kept.pattern.entries[slot.path]))
         })
-    }
-
-    /// Whether such a path was passed over.
-    fn passed_over(&self, is_such: impl Fn(&Entry) -> bool) -> bool {
-        self.learned(|of| is_such(&of.entry) && of.is_passed_over())
     }
 
     fn given(&self, shows: impl Fn(&Slot) -> bool) -> bool {

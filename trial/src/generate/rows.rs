@@ -53,12 +53,17 @@ pub trait Learning {
         !self.slots().hold_all_of(path)
     }
 
+    /// Whether paths without rows get them back for an entry that needs them.
+    fn brings_back(&self) -> bool {
+        true
+    }
+
     /// A path entry gets its rows in a slot.
     fn fill(&mut self, giving: Giving);
 
     /// Learns an entry: of a path its rows, after those that it needs have theirs. Of a node these alone.
     fn learn(&mut self, entry: usize) {
-        if !self.slots().hold_all_of(entry) {
+        if self.brings_back() && !self.slots().hold_all_of(entry) {
             let uses = self.slots().uses_again(entry);
             for (path, _) in uses[..entry].iter().enumerate().filter(|(_, last)| **last != 0) {
                 if self.slots().lack(path) {
@@ -144,9 +149,9 @@ impl Slots {
         Some(self.next_uses(from)[path]).filter(|&entry| entry != 0)
     }
 
-    /// The first slot whose path isn't used from this path on, by these uses.
+    /// The first slot whose path isn't used from this path on, by these uses; 0 is none.
     fn free(&self, path: usize, uses: &Uses) -> Option<usize> {
-        self.given().find(|&slot| uses[number(self.holders[slot])] < path)
+        self.given().find(|&slot| uses[number(self.holders[slot])] < path.max(1))
     }
 
     /// The slot for a path that is learned for an entry: a free one, else that of the path whose next use from the
@@ -212,11 +217,12 @@ impl Slots {
         uses
     }
 
-    /// The last uses, up to an entry, of the paths that it refers to and of those that they go on by.
+    /// The last uses, up to an entry, of the paths that it refers to and of those that paths without rows among them go
+    /// on by.
     fn needed_uses(&self, entry: usize) -> Uses {
         let mut uses = [0; END + 1];
         for needed in (0..=entry).rev() {
-            if needed == entry || self.entries[needed].is_path() && uses[needed] != 0 {
+            if needed == entry || self.lack(needed) && uses[needed] != 0 {
                 for path in self.paths_of(needed) {
                     let last = &mut uses[number(path)];
                     *last = needed.max(*last);
@@ -290,7 +296,7 @@ mod tests {
                 "if !paths_held(p, marks, j) {\n        return;",
                 "free_slot(p, marks, last, uses, slots, k, j)",
                 "if sort_at(p, j).is_node() | (is_held(marks, j) | (uses[j as usize] == 0)) {\n        return;",
-                "uses_again(p, last, k, &mut uses);\n    let mut j = 0;\n    while j < k {",
+                "uses_again(p, marks, last, k, &mut uses);\n    let mut j = 0;\n    while j < k {",
                 "if paths_held(p, marks, k) {\n        return;\n    }\n    learn_needed(",
                 "bring_back(p, table, alike, area, rows, marks, n, slots, last, k);\n    if sort_at(p, k).is_node() {",
                 "        last,\n        last,\n        k,\n        k,\n",
@@ -300,16 +306,19 @@ mod tests {
         assert_says(
             uses,
             &[
-                "if uses[path as usize] < j {\n            return slot;",
+                "let least = least_use(j);",
+                "if uses[path as usize] < least {\n            return slot;",
+                "fn least_use(j: u8) -> u8 {\n    if j == 0 {\n        return 1;",
                 "taken_slot(p, marks, last, slots, k)\n",
                 "let mut j = p[5];\n    while k < j {\n        j -= 1;",
                 "if next[first as usize] < next[second as usize] {\n        return t;",
                 "let mut latest = 1;\n    let mut slot = 2;",
                 "latest = later_slot(marks, next, latest, slot);",
                 "refer_to_parts(p, uses, Use::Last, k);\n    let mut j = k;\n    while 0 < j {",
-                "if (uses[j as usize] != 0) & sort_at(p, j).is_path() {",
+                "if is_lost(p, marks, j) & (uses[j as usize] != 0) {",
+                "sort_at(p, j).is_path() & !is_held(marks, j)",
                 "while r < END {\n        if k < last[r as usize] {\n            uses[r as usize] = END;",
-                "needed_uses(p, k, uses);\n    keep_later(last, k, uses);\n    uses[END as usize] = 0;",
+                "needed_uses(p, marks, k, uses);\n    keep_later(last, k, uses);\n    uses[END as usize] = 0;",
                 "last[END as usize] = 0;",
             ],
         );
@@ -410,12 +419,12 @@ mod tests {
     }
 
     #[test]
-    fn no_slot_is_free_for_entry_0_that_lost_its_rows() {
+    fn a_slot_is_free_for_entry_0_too() {
         let entries = compared_last(jumps(), [0, 1]);
         let last = entries.iter().position(|entry| *entry == compare(0, 1)).expect("they are compared");
         let mut alone = Alone::new(&entries).until(last);
         assert!(!alone.slots.hold(Some(0)));
-        assert_eq!(alone.learned(last), [(0, 2, false), (1, 1, true)]);
+        assert_eq!(alone.learned(last), [(0, 1, true)]);
         assert!(alone.slots.hold_all_of(last));
     }
 }

@@ -19,10 +19,10 @@ pub struct Keeper {
     brought_back: fn(&Judge, usize) -> usize,
     /// The slot whose rows it takes for a path that one learned so goes on by.
     back_on: fn(&Judge, Path) -> Option<usize>,
+    /// Whether paths that lost their rows get them back. It is right either way: without, they are swept.
+    brings_back: bool,
     /// Whether the rows of a path learned so are filled.
     fills_again: bool,
-    /// Whether a slot has nobody's rows while it is filled.
-    empties: bool,
     /// The slot whose rows it takes for a path that another, learned for itself, goes on by.
     built_on: fn(&Judge, Path) -> Option<usize>,
     /// Whether a path that is passed over is given a slot, which isn't filled.
@@ -47,8 +47,8 @@ pub const RIGHT: Keeper = Keeper {
     next: |_, slot| slot,
     brought_back: |_, path| path,
     back_on: |judge, path| judge.slots.of(path),
+    brings_back: true,
     fills_again: true,
-    empties: true,
     built_on: |judge, path| judge.slots.of(path),
     gives_anyway: false,
     holder: |entry| entry,
@@ -60,12 +60,14 @@ pub const RIGHT: Keeper = Keeper {
     sides: |alpha, beta| [alpha, beta],
 };
 
+pub const SWEEPING: Keeper = Keeper { brings_back: false, ..RIGHT };
+
 pub type Mistake = (&'static str, Keeper);
 
-pub const MISTAKES: [Mistake; 30] = [
+pub const MISTAKES: [Mistake; 29] = [
     (
         "a path that lost its rows is compared by those in its slot",
-        Keeper { compared: |judge, paths, node| paths.map(|path| judge.stale(path, node)), ..RIGHT },
+        Keeper { compared: |judge, paths, node| paths.map(|path| judge.stale(path, node)), ..SWEEPING },
     ),
     (
         "a path that was passed over is compared as the end of path",
@@ -73,7 +75,7 @@ pub const MISTAKES: [Mistake; 30] = [
             compared: |judge, paths, node| {
                 paths.map(|path| if judge.given(path) == 0 { 1 << node } else { judge.ends(path, node) })
             },
-            ..RIGHT
+            ..SWEEPING
         },
     ),
     (
@@ -82,12 +84,12 @@ pub const MISTAKES: [Mistake; 30] = [
             compared: |judge, [one, other], node| {
                 [[one, other], [other, one]].map(|paths| judge.ends(judge.held_of(paths), node))
             },
-            ..RIGHT
+            ..SWEEPING
         },
     ),
     (
         "a path without rows leads nowhere",
-        Keeper { compared: |judge, paths, node| paths.map(|path| judge.by_rows(path, node)), ..RIGHT },
+        Keeper { compared: |judge, paths, node| paths.map(|path| judge.by_rows(path, node)), ..SWEEPING },
     ),
     (
         "the first path is compared with itself",
@@ -99,7 +101,7 @@ pub const MISTAKES: [Mistake; 30] = [
     ),
     (
         "a path is built on the rows in a slot that another path has",
-        Keeper { built_on: |judge, path| Some(judge.given(path)), ..RIGHT },
+        Keeper { built_on: |judge, path| Some(judge.given(path)), ..SWEEPING },
     ),
     (
         "a path is brought back on the rows in a slot that another path has",
@@ -115,7 +117,6 @@ pub const MISTAKES: [Mistake; 30] = [
     ),
     ("a path brought back has the rows that were in its slot", Keeper { fills_again: false, ..RIGHT }),
     ("a path that is passed over has the rows of a slot", Keeper { gives_anyway: true, ..RIGHT }),
-    ("a path is built on rows that its own overwrite", Keeper { empties: false, ..RIGHT }),
     ("a slot has the rows of the entry behind its path", Keeper { holder: |entry| entry + 1, ..RIGHT }),
     (
         "the slot of the end of path is given to others",
@@ -201,9 +202,9 @@ pub const MISTAKES: [Mistake; 30] = [
             ..RIGHT
         },
     ),
-    ("a test lets everything pass, on a path without rows", Keeper { passing: |nodes, _| nodes, ..RIGHT }),
-    ("a fork goes left only, on a path without rows", Keeper { sides: |alpha, _| [alpha; 2], ..RIGHT }),
-    ("a fork goes right only, on a path without rows", Keeper { sides: |_, beta| [beta; 2], ..RIGHT }),
+    ("a test lets everything pass, on a path without rows", Keeper { passing: |nodes, _| nodes, ..SWEEPING }),
+    ("a fork goes left only, on a path without rows", Keeper { sides: |alpha, _| [alpha; 2], ..SWEEPING }),
+    ("a fork goes right only, on a path without rows", Keeper { sides: |_, beta| [beta; 2], ..SWEEPING }),
 ];
 
 /// Takes every path to have the rows of its slot.
@@ -416,6 +417,10 @@ impl Learning for Judge<'_> {
         &self.slots
     }
 
+    fn brings_back(&self) -> bool {
+        self.keeper.brings_back
+    }
+
     fn passes_over(&self, path: usize, entry: usize) -> bool {
         self.built_on(path, path == entry).is_none() && !self.keeper.gives_anyway
     }
@@ -423,9 +428,7 @@ impl Learning for Judge<'_> {
     /// Gives a path its rows, if it is built on paths that have theirs, also when it has a slot.
     fn fill(&mut self, Giving { path, entry, slot, .. }: Giving) {
         let slot = (self.keeper.next)(&self.slots, slot);
-        if self.keeper.empties {
-            self.slots.give(slot, None);
-        }
+        self.slots.give(slot, None);
         let for_itself = path == entry;
         let filled = if for_itself { path } else { (self.keeper.brought_back)(self, path) };
         let rests = self.built_on(filled, for_itself);
