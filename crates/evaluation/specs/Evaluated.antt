@@ -26,7 +26,7 @@ use Rattle.relations.specs.Tables.{Before, propertyRow, nameRow, nodesRow}
 use Rattle.relations.specs.Members.{Collected, collected-none, collected-next}
 use Rattle.relations.specs.Values.{Pair, PairFound}
 use Rattle.relations.specs.Paths.{RowsCompared}
-use Rattle.evaluation.specs.Standing.{placeOf, areaBytes, Lent, Standing, Evaluates, Ends}
+use Rattle.evaluation.specs.Standing.{Lent, Standing, Evaluates, Ends}
 use Rattle.evaluation.specs.Entries.{refers-as, within-as}
 use Rattle.evaluation.specs.Nodes.{ComparesIn, channel-rows, pair-compares-in, ends-inside, nodes-property, nodes-name, nodes-not, nodes-both, nodes-after, nodes-compare}
 
@@ -49,11 +49,6 @@ lent-valid {bs} lent = valid bs (countOf bs) (lent .read)
 -- an entry stands within the file
 pub entry-long : {bs table alike : List ℕ} {n : ℕ} → Lent bs table alike n → (k : ℕ) → k < countOf bs → HasEntry bs k
 entry-long lent k l = omega (arith, l, lent-valid lent .header .length-is)
-
--- and its set within an area that is long enough
-pub set-long : {bs table alike : List ℕ} {n : ℕ} → Lent bs table alike n → (area : List ℕ) → areaBytes bs ≤ length area → (k : ℕ)
-    → k < countOf bs → tableBytes (placeOf bs k + 1) ≤ length area
-set-long lent area long k l = omega (arith, l, long, lent-valid lent .header .one-byte)
 
 module _ {bs table alike : List ℕ} {n k : ℕ} {e : Entry} {kind : NodeKind} (q : NodeEntry bs table alike n k e kind) where
   kind-is : (t : NodeKind) → kind ≡ t → IsNodeKind t (entryAt bs k .kind)

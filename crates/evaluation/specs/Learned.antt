@@ -23,10 +23,16 @@ use Rattle.decision.specs.Root.{root-holds}
 use Rattle.relations.specs.Tables.{IsSet}
 use Rattle.relations.specs.Filled.{exactly-put}
 use Rattle.relations.specs.Paths.{RowsFit}
-use Rattle.evaluation.specs.Standing.{placeOf, areaBytes, Holding, Leading, Lent, Standing, Evaluates, Ends, RootNodes}
+use Rattle.evaluation.specs.Standing.{Holding, Leading, Lent, Standing, Evaluates, Ends, RootNodes}
+use Rattle.slots.specs.Area.{placeOf, areaBytes, set-room, places-differ}
 use Rattle.slots.specs.Marks.{markOf, tagAt, tagOf, tagFor, isKnown, isHeld, firstRow, PathOf, IsFree, MayHold, slots-apart}
 use Rattle.evaluation.specs.Entries.{end-leads}
-use Rattle.evaluation.specs.Evaluated.{lent-valid, set-long}
+use Rattle.evaluation.specs.Evaluated.{lent-valid}
+
+-- the set of a node entry in the area: its mark tells the place
+pub record Stored (bs table alike : List ℕ) (n : ℕ) (area : List ℕ) (k mark : ℕ) : Type 0 where
+  pub place-is : mark ≡ placeOf bs k + 1
+  pub set-is : Evaluates bs table alike n k (setAt area (placeOf bs k))
 
 -- the rows of a path in a slot: there is room for them, and each has the ends from its node
 pub record Rowed (bs table alike : List ℕ) (n : ℕ) (rows : List ℕ) (path slot : ℕ) : Type 0 where
@@ -36,7 +42,7 @@ pub record Rowed (bs table alike : List ℕ) (n : ℕ) (rows : List ℕ) (path s
 -- what the marks say is so; slot 0 is that of the end of path
 pub record Learned (bs table alike : List ℕ) (n : ℕ) (area rows marks : List ℕ) : Type 0 where
   pub area-long : areaBytes bs ≤ length area
-  pub sets : (k : ℕ) → k < countOf bs → sortAt bs k ≡ Sort.Node → isKnown marks k ≡ true → Evaluates bs table alike n k (setAt area (placeOf bs k))
+  pub sets : (k : ℕ) → k < countOf bs → sortAt bs k ≡ Sort.Node → isKnown marks k ≡ true → Stored bs table alike n area k (markOf marks k)
   pub marks-long : tagAt (endOfPath + 1) ≤ length marks
   pub end-slot : markOf marks endOfPath ≡ 0
   pub held : (path : ℕ) → PathOf bs path → isHeld marks path ≡ true → Rowed bs table alike n rows path (markOf marks path)
@@ -83,7 +89,7 @@ module _ {bs table alike : List ℕ} {n : ℕ} (lent : Lent bs table alike n) wh
       record {
         area-long = area-long;
         marks-long = rw (length-replicate {A = ℕ} m 0) long;
-        sets = λ k l node known. absurd (false≢true (sym (unknown k (omega (arith, l, lent-valid lent .header .one-byte, long))) ∙ known));
+        sets = λ k l node known. absurd (not-first k l known);
         end-slot = zero endOfPath (omega (arith, long));
         held = λ path is-path h. subst (Rowed bs table alike n rows path) (sym (zero path (omega (arith, path-small path is-path, long)))) (end path is-path h);
       }
@@ -91,8 +97,8 @@ module _ {bs table alike : List ℕ} {n : ℕ} (lent : Lent bs table alike n) wh
       zero : (i : ℕ) → i < m → _≡_ {A = ℕ} (getD (replicate m 0) i 0) 0
       zero i l = getD-replicate m i 0 0 l
 
-      unknown : (k : ℕ) → k < m → isKnown (replicate m 0) k ≡ false
-      unknown k l = ap not (eq-eqb _ _ (zero k l))
+      not-first : (k : ℕ) → k < countOf bs → isKnown (replicate m 0) k ≡ true → ⊥
+      not-first k l known = false≢true (sym (ap not (eq-eqb _ _ (zero k (omega (arith, l, lent-valid lent .header .one-byte, long))))) ∙ known)
 
       from-self : (w : Standing bs table alike n) (u : ℕ) (l : u < w .model .size) (v : ℕ)
           → (has (setAt rows u) v ≡ true) ↔ ((k : v < w .model .size) × Leading (w .model) (w .named) bs endOfPath (u, l) (v, k))
@@ -122,6 +128,12 @@ module _ {bs table alike : List ℕ} {n : ℕ} (lent : Lent bs table alike n) wh
           subst (λ (p : ℕ). Rowed bs table alike n rows p 0) same in-first
 
   module _ {area rows marks : List ℕ} (known : Learned bs table alike n area rows marks) where
+    -- a node entry whose mark stays has its set as before
+    stored-kept : {mark : ℕ} (k : ℕ) → k < countOf bs → sortAt bs k ≡ Sort.Node → mark ≡ markOf marks k → not (eqb mark 0) ≡ true
+        → Stored bs table alike n area k mark
+    stored-kept k l node same is-known =
+        subst (Stored bs table alike n area k) (sym same) (known .sets k l node (subst (λ (x : ℕ). not (eqb x 0) ≡ true) same is-known))
+
     -- ---- a slot that is taken from its path
     module _ (slot : ℕ) (may : MayHold slot) where
       taken-mark : (i : ℕ) → i ≤ endOfPath → markOf (set marks (tagAt slot) 0) i ≡ markOf marks i
@@ -157,8 +169,7 @@ module _ {bs table alike : List ℕ} {n : ℕ} (lent : Lent bs table alike n) wh
           record {
             area-long = known .area-long;
             marks-long = rw (length-set marks (tagAt slot) 0) (known .marks-long);
-            sets = λ k l node is-known.
-                known .sets k l node (subst (λ (x : ℕ). not (eqb x 0) ≡ true) (taken-mark k (omega (arith, l, lent-valid lent .header .one-byte))) is-known);
+            sets = λ k l node is-known. let same = taken-mark k (omega (arith, l, lent-valid lent .header .one-byte)) in stored-kept k l node same is-known;
             end-slot = taken-mark endOfPath (omega arith) ∙ known .end-slot;
             held = λ path is-path h.
                 subst (Rowed bs table alike n rows path) (sym (taken-mark path (path-small path is-path)))
@@ -191,7 +202,7 @@ module _ {bs table alike : List ℕ} {n : ℕ} (lent : Lent bs table alike n) wh
           area-long = known .area-long;
           marks-long = rw (length-set (set marks k slot) (tagAt slot) (tagFor k), length-set marks k slot) (known .marks-long);
           sets = λ j m node is-known.
-              known .sets j m node (subst (λ (x : ℕ). not (eqb x 0) ≡ true) (mark-other j (omega (arith, m, few)) (λ e. path-no-node (sym (subst (λ (i : ℕ). sortAt bs i ≡ Sort.Path) (sym e) is-path-k) ∙ node))) is-known);
+              stored-kept j m node (mark-other j (omega (arith, m, few)) (λ e. path-no-node (sym (subst (λ (i : ℕ). sortAt bs i ≡ Sort.Path) (sym e) is-path-k) ∙ node))) is-known;
           end-slot = mark-other endOfPath (omega arith) (λ e. omega (arith, e, l, few)) ∙ known .end-slot;
           held = λ path is-path h. which path is-path h (eqb path k) refl;
         }
@@ -247,11 +258,11 @@ module _ {bs table alike : List ℕ} {n : ℕ} (lent : Lent bs table alike n) wh
 
     -- ---- a node entry whose set is in the area
     pub learned-node : (k : ℕ) (s : NodeSet) → k < countOf bs → sortAt bs k ≡ Sort.Node → Evaluates bs table alike n k s
-        → Learned bs table alike n (put area (placeOf bs k) s) rows (set marks k 1)
+        → Learned bs table alike n (put area (placeOf bs k) s) rows (set marks k (placeOf bs k + 1))
     learned-node k s l node set-of-k =
         record {
           area-long = rw (length-put area (placeOf bs k) s) (known .area-long);
-          marks-long = rw (length-set marks k 1) (known .marks-long);
+          marks-long = rw (length-set marks k (placeOf bs k + 1)) (known .marks-long);
           sets = λ j m is-node is-known. which j m is-node is-known (eqb j k) refl;
           end-slot = mark-other endOfPath (λ e. omega (arith, e, l, lent-valid lent .header .one-byte)) ∙ known .end-slot;
           held = λ path is-path h.
@@ -259,28 +270,40 @@ module _ {bs table alike : List ℕ} {n : ℕ} (lent : Lent bs table alike n) wh
               (known .held path is-path (still path is-path h));
         }
       where
-        mark-other : (i : ℕ) → (i ≡ k → ⊥) → markOf (set marks k 1) i ≡ markOf marks i
-        mark-other i differ = getD-set-other marks k i 1 0 differ
+        marked : List ℕ
+        marked = set marks k (placeOf bs k + 1)
 
-        tag-other : (slot : ℕ) → tagOf (set marks k 1) slot ≡ tagOf marks slot
-        tag-other slot = getD-set-other marks k (tagAt slot) 1 0 (λ e. omega (arith, e, l, lent-valid lent .header .one-byte))
+        mark-other : (i : ℕ) → (i ≡ k → ⊥) → markOf marked i ≡ markOf marks i
+        mark-other i differ = getD-set-other marks k i (placeOf bs k + 1) 0 differ
 
-        still : (path : ℕ) → PathOf bs path → isHeld (set marks k 1) path ≡ true → isHeld marks path ≡ true
+        tag-other : (slot : ℕ) → tagOf marked slot ≡ tagOf marks slot
+        tag-other slot = getD-set-other marks k (tagAt slot) (placeOf bs k + 1) 0 (λ e. omega (arith, e, l, lent-valid lent .header .one-byte))
+
+        still : (path : ℕ) → PathOf bs path → isHeld marked path ≡ true → isHeld marks path ≡ true
         still path is-path h =
-            let tag : tagOf (set marks k 1) (markOf (set marks k 1) path) ≡ tagFor path = eqb-true _ _ h in
+            let tag : tagOf marked (markOf marked path) ≡ tagFor path = eqb-true _ _ h in
             eq-eqb _ _
             (sym (tag-other (markOf marks path))
-            ∙ subst (λ (x : ℕ). tagOf (set marks k 1) x ≡ tagFor path) (mark-other path (path-not-node path k l is-path node)) tag)
+            ∙ subst (λ (x : ℕ). tagOf marked x ≡ tagFor path) (mark-other path (path-not-node path k l is-path node)) tag)
 
-        which : (j : ℕ) → j < countOf bs → sortAt bs j ≡ Sort.Node → isKnown (set marks k 1) j ≡ true → (b : Bool) → eqb j k ≡ b
-            → Evaluates bs table alike n j (setAt (put area (placeOf bs k) s) (placeOf bs j))
-        which j m is-node is-known true e w =
-            subst (λ (i : ℕ). IsSet (w .model) (Holding (w .model) (w .named) bs i) (setAt (put area (placeOf bs k) s) (placeOf bs i))) (sym (eqb-true j k e))
-            (exactly-put _ area (placeOf bs k) s (set-long lent area (known .area-long) k l) (set-of-k w))
-        which j m is-node is-known false e w =
+        own : Stored bs table alike n (put area (placeOf bs k) s) k (markOf marked k)
+        own =
+            record {
+              place-is = getD-set-same marks k (placeOf bs k + 1) 0 (omega (arith, l, lent-valid lent .header .one-byte, known .marks-long));
+              set-is = λ w. exactly-put _ area (placeOf bs k) s (set-room bs area (known .area-long) k l node) (set-of-k w);
+            }
+
+        which : (j : ℕ) → j < countOf bs → sortAt bs j ≡ Sort.Node → isKnown marked j ≡ true → (b : Bool) → eqb j k ≡ b
+            → Stored bs table alike n (put area (placeOf bs k) s) j (markOf marked j)
+        which j m is-node is-known true e =
+            subst (λ (i : ℕ). Stored bs table alike n (put area (placeOf bs k) s) i (markOf marked i)) (sym (eqb-true j k e)) own
+        which j m is-node is-known false e =
             let other = eqb-false j k e in
-            subst (Evaluates bs table alike n j) (sym (put-other area (placeOf bs k) (placeOf bs j) s other))
-            (known .sets j m is-node (subst (λ (x : ℕ). not (eqb x 0) ≡ true) (mark-other j other) is-known)) w
+            let before = stored-kept j m is-node (mark-other j other) is-known in
+            record {
+              place-is = before .place-is;
+              set-is = subst (Evaluates bs table alike n j) (sym (put-other area (placeOf bs k) (placeOf bs j) s (places-differ bs j k is-node node other))) (before .set-is);
+            }
 
   -- ---- a slot that is taken from its path and has other rows, which may be those of path k
   module _ {area rows marks : List ℕ} (known : Learned bs table alike n area rows marks) (slot : ℕ) (may : MayHold slot) (rows′ : List ℕ)

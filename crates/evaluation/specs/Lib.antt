@@ -6,4 +6,3 @@ pub mod Nodes
 pub mod Evaluated
 pub mod SweepEntry
 pub mod Learned
-pub mod Rows

@@ -9,19 +9,11 @@ use Rattle.nodeset.specs.Set.{width, has}
 use Rattle.nodeset.specs.Stored.{tableBytes}
 use Rattle.pattern.specs.Checks.Finding.{found}
 use Rattle.pattern.specs.File.Table.{endOfPath}
-use Rattle.pattern.specs.File.Entries.{maxEntries}
 use Rattle.pattern.specs.File.Reading.{countOf, readingOf}
 use Rattle.pattern.specs.Logic.Finite.{Finite, Named, NodeOf, modelOf, namingOf}
 use Rattle.pattern.specs.Meaning.Agreement.{HoldsAt, LeadsAt}
 use Rattle.decision.specs.Root.{rootHolds}
 use Rattle.relations.specs.Tables.{IsSet, Tabled, Alike, modelRows, alikeRows}
-
--- where the set of node entry k stands in the area, and the bytes of all: a set for each number that an entry can have
-abbrev pub placeOf : List ℕ → ℕ → ℕ
-placeOf bs k = k
-
-abbrev pub areaBytes : List ℕ → ℕ
-areaBytes bs = tableBytes maxEntries
 
 -- the bytes of a sweep: a pending set for each reference, the end of path the last
 abbrev pub pendingBytes : ℕ

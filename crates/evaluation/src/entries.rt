@@ -24,6 +24,7 @@ use slots::marks::MARKS_BYTES;
 use slots::marks::is_held;
 use slots::marks::is_known;
 use slots::marks::row_of_path;
+use slots::marks::set_place;
 ghost use mathlib.Core.Path.{_≡_};
 ghost use Prim.Native.Nat.{_+_, _≤_, _<_};
 ghost use lib.ListN.{length};
@@ -60,7 +61,7 @@ pub fn evaluate(
     ensures { λ r. ⌜ Evaluates (now (p .entry)) (now (table .entry)) (now (alike .entry)) n k r ⌝ }
 {
     if is_known(marks, k) {
-        return NodeSet::load(area, k as usize);
+        return NodeSet::load(area, set_place(marks, k) as usize);
     }
     compute(p, table, alike, area, rows, marks, n, k)
 }

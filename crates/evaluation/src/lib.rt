@@ -1,7 +1,5 @@
 // Where a pattern holds in a finite data model: node evaluation and path ends. The model comes in tables
 // of node sets (`relations`).
 mod entries;
-mod learning;
-mod root;
 
-pub use root::root_nodes;
+pub use entries::evaluate;

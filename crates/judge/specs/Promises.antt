@@ -3,10 +3,11 @@
 use mathlib.Core.Path.{_≡_}
 use mathlib.Core.Logic.{_↔_}
 use mathlib.Core.List.{List}
-use Prim.Native.Nat.{ℕ, _+_, _-_, _*_, _≤_}
+use Prim.Native.Nat.{ℕ, _+_, _-_, _*_, _≤_, _<_}
 use lib.ListN.{length}
 use Rattle.pattern.specs.Checks.Finding.{Finding, found, refused}
 use Rattle.decision.specs.Judged.{Judged, met, unmet}
+use Rattle.model_records.specs.declared.Order.{Order}
 use Rattle.model.specs.Judging as model
 use Rattle.tableau.specs.declared.finding.Closed.{Closed}
 use Rattle.tableau.specs.Judging as tableau
@@ -38,6 +39,9 @@ pub record ModelPromise (bs ds lent : List ℕ) (f : Finding Judged) (left : Lis
   pub area : left ≡ model.areaAfter bs f lent
   -- demand 2: met and unmet are found exactly where they are so under the satisfaction relation
   pub meaning : (j : Judged) → (f ≡ found j) ↔ model.Judgement bs ds (length lent) j
+  -- 02, Job 5: "Refusal 9 for models is given below that length. Every finding equals the one that 2,040 bytes gave before, refusal 9 apart."
+  pub short : length lent < model.areaWanted bs → f ≡ refused 9 0
+  pub as-before : model.areaWanted bs ≤ length lent → f ≡ model.gaveBefore Order.Rising bs ds
   -- demand 3: where a model is met, no tableau closes
   pub tableaux : (lowest number : ℕ) → f ≡ found (met lowest number) → NeverClosed bs
 

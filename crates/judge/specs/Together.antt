@@ -6,6 +6,7 @@ use Prim.Native.Nat.{ℕ}
 use lib.ListN.{length}
 use Rattle.pattern.specs.Checks.Finding.{Finding, found, refused}
 use Rattle.decision.specs.Judged.{Judged, met, unmet}
+use Rattle.model_records.specs.declared.Order.{Order}
 use Rattle.model_records.specs.Contents.{modelFrom}
 use Rattle.model_records.specs.Valid.{all-named}
 use Rattle.model.specs.Judging as model
@@ -46,6 +47,8 @@ model-promised bs ds lent left f e a =
       finding = e;
       area = a;
       meaning = model.finding-means bs ds (length lent) f e;
+      short = λ l. e ∙ model.short-refused Order.Rising bs ds (length lent) l;
+      as-before = λ l. e ∙ model.enough-as-before Order.Rising bs ds (length lent) l;
       tableaux = λ lowest number h. met-never-closed bs ds (length lent) lowest number (sym e ∙ h);
     }
 

@@ -1,17 +1,18 @@
 // What programs in C and Rust link: reading a pattern, judging a model, judging a tableau and putting an
 // older model file in order, over byte slices. Each answers one number, a packed finding. Packing loses
 // nothing: taken apart, the answer tells the finding (each function's clause `finding`), and of what it
-// tells the promise holds (`promise`).
+// tells the promise holds (`promise`). Beside them stands the length of the area that a model wants, as it is.
 use crate::judge_model;
 use crate::judge_tableau;
 use answers::model_answer;
 use answers::order_answer;
 use answers::read_answer;
 use answers::tableau_answer;
+use model::judge::area_wanted;
 use model_order::put_in_order;
 use pattern_read::read;
 ghost use mathlib.Core.Path.{_≡_};
-ghost use Prim.Native.Nat.{ℕ};
+ghost use Prim.Native.Nat.{ℕ, _≤_};
 ghost use lib.ListN.{length};
 ghost use Rattle.pattern.specs.Checks.Finding.{Finding, written};
 ghost use Rattle.pattern.specs.File.Reading as reading;
@@ -32,6 +33,16 @@ pub extern "C" fn riser_read(p: &[u8]) -> u64
     ensures finding { λ r. ⌜ unpackRead r ≡ told (reading.readingOf (now (p .entry))) ⌝ }
 {
     read_answer(read(p))
+}
+
+// The bytes of working area that a caller must lend to judge a model of the pattern; 0 for a pattern that
+// is refused. 2,040 are always enough.
+#[no_mangle]
+pub extern "C" fn riser_model_area(p: &[u8]) -> usize
+    ensures answer { λ r. ⌜ r ≡ model-specs.areaWanted (now (p .entry)) ⌝ }
+    ensures enough { λ r. ⌜ r ≤ 2040 ⌝ }
+{
+    area_wanted(p)
 }
 
 // Judges a model. If the answer is met, any bytes judged as a tableau for the pattern are refused.

@@ -5,7 +5,8 @@ use mathlib.Core.Path.{_≡_, refl, sym, _∙_, ap, subst}
 use mathlib.Core.Bool.{Bool, true, false, not, _&&_, false≢true}
 use mathlib.Core.Logic.{_↔_}
 use mathlib.Core.List.{List}
-use Prim.Native.Nat.{ℕ, _+_, _≤_, _<_}
+use Prim.Native.Nat.{ℕ, _+_, _*_, _≤_, _<_}
+use native.Mathlib.Nat.{not-suc-le-zero}
 use native.Mathlib.Omega.{arith}
 use lib.Dec.{ltb}
 use borrow.Author.Tests.{lt-ltb, le-ltb, ltb-false}
@@ -20,6 +21,7 @@ use Rattle.pattern.specs.Meaning.Names.{usesName, used-in-range}
 use Rattle.nodeset.specs.Below.{lowestBelow, lowest-holds, lowest-first}
 use Rattle.nodeset.specs.declared.NodeSet.{NodeSet}
 use Rattle.nodeset.specs.Set.{width, has}
+use Rattle.slots.specs.Area.{nodeEntries, nodes-few}
 use Rattle.decision.specs.Decision.{holdsTest}
 use Rattle.decision.specs.Judged.{Judged, met, unmet, judgedBy, judgedOf, Says, judged-says, judged-same}
 use Rattle.pattern.specs.File.Reading as reading
@@ -36,13 +38,14 @@ use Rattle.model.specs.declared.judge.JudgeRefusal.{JudgeRefusal}
 use Rattle.model.specs.declared.judge.JudgeCheck.{JudgeCheck}
 use Rattle.model.specs.declared.judge.ModelFinding.{ModelFinding}
 
--- the bytes that judging a model wants of its working area for a pattern, and zeroes; they are those of evaluation's sets, `areaBytes`
+-- 02, Job 5: "8 bytes for each node entry of the pattern": what judging a model wants of its working area, and zeroes; they are those of
+-- evaluation's sets, `areaBytes`
 abbrev pub areaNeed : List ℕ → ℕ
-areaNeed bs = 2040
+areaNeed bs = 8 * nodeEntries bs
 
--- "9: working area under 2,040 bytes."
-abbrev pub areaCheck : List ℕ → ℕ → Check
-areaCheck bs size = refusesIf (ltb size (areaNeed bs)) 9 0
+-- "9: working area under" so many bytes, before Job 5 2,040 for every pattern; Job 5: "Refusal 9 for models is given below that length."
+abbrev pub areaCheck : ℕ → ℕ → Check
+areaCheck need size = refusesIf (ltb size need) 9 0
 
 -- the pattern uses name i, and the model doesn't list it
 abbrev pub isMissing : List ℕ → List ℕ → ℕ → Bool
@@ -55,7 +58,7 @@ namesCheck bs ds = refusesIf (someBelow (maxName + 1) (isMissing bs ds)) 27 (low
 -- "Refused 1 to 8 as above. 9: .. 10: .." and on to 14, with 28 of Job 3 behind each 14 where edges must rise, and then 27 ("27 follows all
 -- edge records."), of a file whose edges must stand in that order, for a working area of this many bytes
 unfoldable pub judgingCheck : Order → List ℕ → List ℕ → ℕ → Check
-judgingCheck order bs ds size = patternCheck bs then areaCheck bs size then modelCheck order ds then namesCheck bs ds
+judgingCheck order bs ds size = patternCheck bs then areaCheck (areaNeed bs) size then modelCheck order ds then namesCheck bs ds
 
 -- "Judging a model gives met (lowest node, number of nodes) or unmet": of the root, in the data model that the file denotes
 unfoldable pub judgingBy : Order → List ℕ → List ℕ → ℕ → Finding Judged
@@ -65,7 +68,20 @@ judgingBy order bs ds size = unless (judgingCheck order bs ds size) (judgedOf (m
 abbrev pub judgingOf : List ℕ → List ℕ → ℕ → Finding Judged
 judgingOf = judgingBy Order.Rising
 
--- "A refusal leaves the area unchanged; a finding leaves its first 2,040 bytes zero and the rest unchanged."
+-- Job 5: the finding "that 2,040 bytes gave before", when these were wanted for every pattern
+abbrev pub gaveBefore : Order → List ℕ → List ℕ → Finding Judged
+gaveBefore order bs ds =
+    unless (patternCheck bs then areaCheck 2040 2040 then modelCheck order ds then namesCheck bs ds) (judgedOf (modelFrom ds) (rootOf bs))
+
+-- the bytes that a caller must lend for a pattern: what it needs, and none for one that is refused
+abbrev pub wantedBy : Check → ℕ → ℕ
+wantedBy passes need = need
+wantedBy (refuses number place) need = 0
+
+abbrev pub areaWanted : List ℕ → ℕ
+areaWanted bs = wantedBy (patternCheck bs) (areaNeed bs)
+
+-- "A refusal leaves the area unchanged; a finding leaves its first 2,040 bytes zero and the rest unchanged." Job 5: "and zero just those"
 abbrev pub areaAfter : List ℕ → Finding Judged → List ℕ → List ℕ
 areaAfter bs (found j) area = cleared (areaNeed bs) area
 areaAfter bs (refused number place) area = area
@@ -142,16 +158,16 @@ lowest-passes bs ds l = rw (none-below (isMissing bs ds) (maxName + 1) (λ i h. 
 
 -- ---- what is found
 
-module _ (order : Order) (bs ds : List ℕ) (size : ℕ) (ok : patternCheck bs ≡ passes) (long : areaNeed bs ≤ size) where
-  -- "27 follows all edge records.": what a model file is refused for is found whatever names it lists
-  pub file-decides : (number place : ℕ) → modelCheck order ds ≡ refuses number place → judgingCheck order bs ds size ≡ refuses number place
+module _ (order : Order) (bs ds : List ℕ) (size : ℕ) (ok : patternCheck bs ≡ passes) where
+  -- of a pattern that isn't refused, 9 decides where the area is too short
+  pub area-decides : size < areaNeed bs → judgingCheck order bs ds size ≡ refuses 9 0
   unfolding judgingCheck
-  file-decides number place h = rw (ok, le-ltb size (areaNeed bs) long, h)
+  area-decides short = rw (ok, lt-ltb size (areaNeed bs) short)
 
-  -- and of one that isn't, the names decide
-  pub names-decide : modelCheck order ds ≡ passes → judgingCheck order bs ds size ≡ namesCheck bs ds
+  -- and the model where it isn't
+  pub model-decides : areaNeed bs ≤ size → judgingCheck order bs ds size ≡ modelCheck order ds then namesCheck bs ds
   unfolding judgingCheck
-  names-decide h = rw (ok, le-ltb size (areaNeed bs) long, h)
+  model-decides long = rw (ok, le-ltb size (areaNeed bs) long)
 
 -- nothing is to be refused
 abbrev pub Allowed : Order → List ℕ → List ℕ → ℕ → Type 0
@@ -164,8 +180,8 @@ checks-pass order bs ds size = (apart, together)
   where
     apart : judgingCheck order bs ds size ≡ passes → Allowed order bs ds size
     apart h =
-        let a = then-passes (patternCheck bs) (areaCheck bs size then modelCheck order ds then namesCheck bs ds) h in
-        let b = then-passes (areaCheck bs size) (modelCheck order ds then namesCheck bs ds) (a .1) in
+        let a = then-passes (patternCheck bs) (areaCheck (areaNeed bs) size then modelCheck order ds then namesCheck bs ds) h in
+        let b = then-passes (areaCheck (areaNeed bs) size) (modelCheck order ds then namesCheck bs ds) (a .1) in
         let c = then-passes (modelCheck order ds) (namesCheck bs ds) (b .1) in
         let ok = passes-valid bs (a .0) in
         let file = model-valid order ds (c .0) in
@@ -173,8 +189,8 @@ checks-pass order bs ds size = (apart, together)
 
     together : Allowed order bs ds size → judgingCheck order bs ds size ≡ passes
     together h =
-        names-decide order bs ds size (valid-passes bs (countOf bs) (h .0)) (h .1) (model-accepted order ds (h .2) (h .3))
-        ∙ names-accepted bs ds (h .4)
+        model-decides order bs ds size (valid-passes bs (countOf bs) (h .0)) (h .1)
+        ∙ rw (model-accepted order ds (h .2) (h .3)) (names-accepted bs ds (h .4))
 
 -- Demand 2 for models: judging finds j exactly where j is so.
 pub judging-says : (bs ds : List ℕ) (size : ℕ) (j : Judged) → (judgingOf bs ds size ≡ found j) ↔ Judgement bs ds size j
@@ -203,7 +219,8 @@ judging-says bs ds size j = (apart, together)
 
 -- what judging finds without the check of 02's Job 1, the last; in any order it is what 01 says (`model-any`)
 abbrev pub judgingBefore : Order → List ℕ → List ℕ → ℕ → Finding Judged
-judgingBefore order bs ds size = unless (patternCheck bs then areaCheck bs size then modelCheck order ds) (judgedOf (modelFrom ds) (rootOf bs))
+judgingBefore order bs ds size =
+    unless (patternCheck bs then areaCheck (areaNeed bs) size then modelCheck order ds) (judgedOf (modelFrom ds) (rootOf bs))
 
 -- a model that lists the names of the pattern is judged as before that job
 pub listed-as-before : (order : Order) (bs ds : List ℕ) (size : ℕ) → NamesListed bs ds
@@ -211,13 +228,43 @@ pub listed-as-before : (order : Order) (bs ds : List ℕ) (size : ℕ) → Names
 unfolding judgingBy judgingCheck
 listed-as-before order bs ds size h =
     rw (names-accepted bs ds h)
-    (ap (λ (c : Check). unless (patternCheck bs then areaCheck bs size then c) (judgedOf (modelFrom ds) (rootOf bs)))
+    (ap (λ (c : Check). unless (patternCheck bs then areaCheck (areaNeed bs) size then c) (judgedOf (modelFrom ds) (rootOf bs)))
     (passes-last (modelCheck order ds)))
 
 -- "Readings without names keep their findings.": so is any model, for a pattern that uses no name
 pub nameless-as-before : (order : Order) (bs ds : List ℕ) (size : ℕ) → ((i : ℕ) → usesName bs i ≡ false)
     → judgingBy order bs ds size ≡ judgingBefore order bs ds size
 nameless-as-before order bs ds size none = listed-as-before order bs ds size (λ i used. absurd (false≢true (sym (none i) ∙ used)))
+
+-- the area that a caller must lend
+wanted-passed : (bs : List ℕ) → patternCheck bs ≡ passes → areaWanted bs ≡ areaNeed bs
+wanted-passed bs ok = rw ok
+
+-- 2,040 bytes are always enough
+pub wanted-few : (bs : List ℕ) → areaWanted bs ≤ 2040
+wanted-few bs = go (patternCheck bs) refl
+  where
+    go : (c : Check) → patternCheck bs ≡ c → wantedBy c (areaNeed bs) ≤ 2040
+    go passes e = let few = passes-valid bs e .header .one-byte in omega (arith, nodes-few bs (countOf bs), few)
+    go (refuses number place) e = omega arith
+
+-- Job 5: "Refusal 9 for models is given below that length."
+pub short-refused : (order : Order) (bs ds : List ℕ) (size : ℕ) → size < areaWanted bs → judgingBy order bs ds size ≡ refused 9 0
+unfolding judgingBy
+short-refused order bs ds size short = go (patternCheck bs) refl
+  where
+    go : (c : Check) → patternCheck bs ≡ c → judgingBy order bs ds size ≡ refused 9 0
+    go passes e = rw (area-decides order bs ds size e (rw (wanted-passed bs e) at short))
+    go (refuses number place) e = absurd (not-suc-le-zero (rw e at short))
+
+-- "Every finding equals the one that 2,040 bytes gave before, refusal 9 apart.": with an area that is long enough, of every pattern and model
+pub enough-as-before : (order : Order) (bs ds : List ℕ) (size : ℕ) → areaWanted bs ≤ size → judgingBy order bs ds size ≡ gaveBefore order bs ds
+unfolding judgingBy judgingCheck
+enough-as-before order bs ds size long = go (patternCheck bs) refl
+  where
+    go : (c : Check) → patternCheck bs ≡ c → judgingBy order bs ds size ≡ gaveBefore order bs ds
+    go passes e = rw (e, le-ltb size (areaNeed bs) (rw (wanted-passed bs e) at long))
+    go (refuses number place) e = rw e
 
 -- a model whose edges rise, as G's do, is judged as without 02's Job 3, refusals included
 pub rising-as-before : (bs ds : List ℕ) (size : ℕ) → EdgesRise ds → judgingOf bs ds size ≡ judgingBy Order.Any bs ds size

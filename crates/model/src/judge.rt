@@ -8,20 +8,21 @@ use model_records::Order;
 use model_tables::root_nodes;
 use names::used_names;
 use nodeset::NodeSet;
-use pattern::entry::MAX_ENTRIES;
 use pattern::finding::PatternRead;
 use pattern::finding::PatternRefusal;
 use pattern::types::Name;
 use pattern_read::read;
+use slots::area::area_bytes;
 ghost use mathlib.Core.Path.{_≡_};
 ghost use lib.ListN.{length};
 ghost use Rattle.nodeset.specs.Set.{width, has};
-ghost use Rattle.pattern.specs.Checks.Finding.{found};
+ghost use Rattle.pattern.specs.Checks.Finding.{found, _then_};
 ghost use Rattle.pattern.specs.File.Reading.{readingOf};
 ghost use Rattle.decision.specs.Judged.{judgedBy};
 ghost use Rattle.model_records.specs.declared.Order.{Order};
+ghost use Rattle.model_records.specs.Checks.{modelCheck};
 ghost use Rattle.model_records.specs.Valid.{ValidModel};
-ghost use Rattle.model.specs.Judging.{namesCheck, judgingCheck, judgingOf, areaAfter, refusalNumber, refusalPlace, checkOf, findingOf};
+ghost use Rattle.model.specs.Judging.{areaWanted, namesCheck, judgingOf, areaAfter, refusalNumber, refusalPlace, checkOf, findingOf};
 
 // The refusals of judging a model: document 01's 1 to 8 of the pattern, 9 of the working area and 10 to
 // 14 of the model file, with document 02's 28, and its 27, which holds the name that isn't listed.
@@ -72,9 +73,6 @@ pub enum ModelFinding {
     Refused(JudgeRefusal),
 }
 
-// The bytes that judging wants of its working area, and zeroes: a node set for each entry, 2,040.
-pub const AREA: usize = NodeSet::BYTES * MAX_ENTRIES;
-
 // Refusal 27: a name that the pattern, of n entries, uses and the model doesn't list; the lowest.
 fn check_listed(p: &[u8], n: u8, d: &[u8]) -> JudgeCheck
     requires { ⌜ readingOf (now p) ≡ found n ⌝ }
@@ -89,19 +87,11 @@ fn check_listed(p: &[u8], n: u8, d: &[u8]) -> JudgeCheck
     JudgeCheck::Passed
 }
 
-// All refusals, in their order, for a working area of this many bytes.
-fn check_all(p: &[u8], d: &[u8], size: usize) -> JudgeCheck
-    ensures { λ r. ⌜ checkOf r ≡ judgingCheck Order.Rising (now (p .entry)) (now (d .entry)) size ⌝ }
+// The refusals of the model file, and then of the names of the pattern, of n entries, that it must list.
+fn check_model(p: &[u8], n: u8, d: &[u8]) -> JudgeCheck
+    requires { ⌜ readingOf (now p) ≡ found n ⌝ }
+    ensures { λ r. ⌜ checkOf r ≡ modelCheck Order.Rising (now (d .entry)) then namesCheck (now (p .entry)) (now (d .entry)) ⌝ }
 {
-    let n = match read(p) {
-        PatternRead::Refused(refusal) => {
-            return JudgeCheck::Refused(JudgeRefusal::Pattern(refusal));
-        }
-        PatternRead::Read(n) => n,
-    };
-    if size < AREA {
-        return JudgeCheck::Refused(JudgeRefusal::Area);
-    }
     if let ModelCheck::Refused(refusal) = check(d, Order::Rising) {
         return JudgeCheck::Refused(JudgeRefusal::Model(refusal));
     }
@@ -120,14 +110,41 @@ fn judged(s: NodeSet) -> ModelFinding
     ModelFinding::Met(lowest, number)
 }
 
+// Judges a model of a pattern that was read, of n entries.
+fn judge_read(p: &[u8], n: u8, d: &[u8], area: &mut [u8]) -> ModelFinding
+    requires { ⌜ readingOf (now p) ≡ found n ⌝ }
+    ensures finding { λ r. ⌜ findingOf r ≡ judgingOf (now (p .entry)) (now (d .entry)) (length (now (area .entry))) ⌝ }
+    ensures area { λ r. ⌜ now (area .exit) ≡ areaAfter (now (p .entry)) (findingOf r) (now (area .entry)) ⌝ }
+{
+    let need = area_bytes(p, n);
+    if area.len() < need {
+        return ModelFinding::Refused(JudgeRefusal::Area);
+    }
+    if let JudgeCheck::Refused(refusal) = check_model(p, n, d) {
+        return ModelFinding::Refused(refusal);
+    }
+    judged(root_nodes(p, d, &mut area[..need]))
+}
+
 // Judges a model: any bytes as pattern, as model and as working area give a finding or the first
 // refusal that applies.
 pub fn judge(p: &[u8], d: &[u8], area: &mut [u8]) -> ModelFinding
     ensures finding { λ r. ⌜ findingOf r ≡ judgingOf (now (p .entry)) (now (d .entry)) (length (now (area .entry))) ⌝ }
     ensures area { λ r. ⌜ now (area .exit) ≡ areaAfter (now (p .entry)) (findingOf r) (now (area .entry)) ⌝ }
 {
-    if let JudgeCheck::Refused(refusal) = check_all(p, d, area.len()) {
-        return ModelFinding::Refused(refusal);
+    match read(p) {
+        PatternRead::Refused(refusal) => ModelFinding::Refused(JudgeRefusal::Pattern(refusal)),
+        PatternRead::Read(n) => judge_read(p, n, d, area),
     }
-    judged(root_nodes(p, d, &mut area[..AREA]))
+}
+
+// The bytes of its working area that judging a model wants for a pattern, and zeroes; none for a pattern
+// that is refused.
+pub fn area_wanted(p: &[u8]) -> usize
+    ensures { λ r. ⌜ r ≡ areaWanted (now (p .entry)) ⌝ }
+{
+    match read(p) {
+        PatternRead::Refused(_) => 0,
+        PatternRead::Read(n) => area_bytes(p, n),
+    }
 }

@@ -18,7 +18,7 @@ ghost use Rattle.nodeset.specs.Set.{has};
 ghost use Rattle.pattern.specs.Checks.Finding.{found};
 ghost use Rattle.pattern.specs.File.Reading.{countOf, readingOf};
 ghost use Rattle.decision.specs.Root.{rootHolds};
-ghost use Rattle.evaluation.specs.Standing.{areaBytes};
+ghost use Rattle.slots.specs.Area.{areaBytes};
 ghost use Rattle.model_records.specs.Contents.{NamesListed, modelFrom};
 ghost use Rattle.model_records.specs.Valid.{ValidModel};
 
@@ -36,5 +36,5 @@ pub fn root_nodes(p: &[u8], d: &[u8], work: &mut [u8]) -> NodeSet
     let mut alike = [0u8; ALIKE_BYTES];
     tabulate(p, d, &mut table);
     tabulate_values(p, d, &mut alike);
-    evaluation::root_nodes(p, &table, &alike, work, node_count(d))
+    learning::root_nodes(p, &table, &alike, work, node_count(d))
 }

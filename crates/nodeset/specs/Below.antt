@@ -162,6 +162,30 @@ count-fewer (suc n) s t j h keeps gone was =
     go (inl e) le one below = rw (rw e at gone, rw e at was) (omega arith)
     go (inr l) le one below = omega (arith, below l)
 
+-- a wider bound has one more for a number that passes
+pub count-next : (n : ℕ) (test : ℕ → Bool) → countBelow (n + 1) test ≡ countBelow n test + pick (test n) 1 0
+unfolding countBelow
+count-next n test = let e : n + 1 ≡ suc n = omega arith in rw e
+
+-- there are more below a number than below an earlier one that passes
+pub count-more : (test : ℕ → Bool) (j k : ℕ) → j < k → test j ≡ true → countBelow j test < countBelow k test
+unfolding countBelow
+count-more test j zero h e = absurd (not-suc-le-zero h)
+count-more test j (suc k) h e = go (eq-or-lt-of-le (le-of-suc-le-suc h)) (λ l. count-more test j k l e)
+  where
+    go : (j ≡ k) ⊎ (j < k) → (j < k → countBelow j test < countBelow k test) → countBelow j test < countBelow k test + pick (test k) 1 0
+    go (inl p) f = rw (sym p, e) (omega arith)
+    go (inr l) f = omega (arith, f l)
+
+-- so numbers that pass have different counts
+pub counts-differ : (test : ℕ → Bool) (j k : ℕ) → test j ≡ true → test k ≡ true → (j ≡ k → ⊥) → countBelow j test ≡ countBelow k test → ⊥
+counts-differ test j k e f differ same = go (ltb j k) (ltb k j) refl refl
+  where
+    go : (x y : Bool) → ltb j k ≡ x → ltb k j ≡ y → ⊥
+    go true y p q = let more = count-more test j k (ltb-true j k p) e in omega (arith, more, same)
+    go false true p q = let more = count-more test k j (ltb-true k j q) f in omega (arith, more, same)
+    go false false p q = differ (omega (arith, ltb-false j k p, ltb-false k j q))
+
 -- there are no more than numbers
 pub count-le : (n : ℕ) (test : ℕ → Bool) → countBelow n test ≤ n
 unfolding countBelow

@@ -5,9 +5,6 @@ ghost use mathlib.Core.Path.{_≡_};
 ghost use Rattle.pattern.specs.File.Entries.{HasEntry, entryAt};
 ghost use Rattle.pattern.specs.File.Reading.{sortAt};
 
-// The entries that a pattern has at most.
-pub const MAX_ENTRIES: usize = 255;
-
 pub struct Entry {
     pub kind: Kind,
     pub x: u8,

@@ -22,7 +22,7 @@ use Rattle.pattern.specs.File.Valid.{valid}
 use Rattle.pattern.specs.File.Reading.{mark, headerCheck, entryCheck, rootCheck, patternCheck, readingOf}
 use Rattle.pattern.specs.Meaning.Expression.{end, nodeWithin, pathWithin, nodeAt, rootOf}
 use Rattle.decision.specs.Decision.{holdsTest, leadsTest}
-use Rattle.decision.specs.Judged.{unmet, judgedBy, judgedOf, judged-says}
+use Rattle.decision.specs.Judged.{met, unmet, judgedBy, judgedOf, judged-says}
 use Rattle.pattern.specs.Meaning.Names.{usesName}
 use Rattle.model_records.specs.Layout as layout
 use Rattle.model_records.specs.Contents.{leadsIn, isListed, NamesListed, nodeNamed, modelFrom}
@@ -31,7 +31,7 @@ use Rattle.model_records.specs.Order.{EdgesRise, comesBefore}
 use Rattle.model_records.specs.Checks as file
 use Rattle.model_records.specs.Checks.{nameCheck, edgeCheck, orderCheck, recordCheck, modelCheck}
 use Rattle.model_records.specs.Valid.{ValidModel, all-named}
-use Rattle.model.specs.Judging.{areaNeed, namesCheck, judgingCheck, judgingBy, judgingOf, checks-pass, judging-finds, judging-refuses}
+use Rattle.model.specs.Judging.{areaNeed, namesCheck, judgingCheck, judgingBy, judgingOf, areaWanted, areaAfter, checks-pass, judging-finds, judging-refuses}
 use Rattle.ordered_file.specs.NewFile.{edgesOf, frontOf, orderedFile}
 use Rattle.model_order.specs.Ordering.{fileWithin, orderingOf}
 use Rattle.lines.specs.Lines.{branchHas}
@@ -41,6 +41,7 @@ use Rattle.tableau.specs.Run.{run}
 use Rattle.tableau.specs.Judging as tableau
 use Rattle.wire.specs.Fields.{text}
 use Rattle.wire.specs.Onto.{onto}
+use Rattle.wire.specs.Cleared.{cleared}
 use Rattle.line.specs.Line.{digitsWithin}
 use Rattle.report.specs.Report.{lineFor}
 
@@ -114,11 +115,14 @@ settings =
 
 -- "G, forward and reverse settings: 8,0,255,0; 8,1,255,0; 6,0,0,1; 7,0,0,1; 4,2,3,0. Four nodes, node 0 with axis 0 to 1, axis 1 to 2 and
 -- 3; channel 0 values 0, 10, 10, 20; no names, all else zero: `met 0 1`."
+abbrev pub patternG : List ℕ
+patternG = patternFile 5 (settings ++ (4 ∷ 2 ∷ 3 ∷ 0 ∷ []))
+
+abbrev pub modelG : List ℕ
+modelG = modelFile 4 0 3 (node 0 ++ node 10 ++ node 10 ++ node 20 ++ (0 ∷ 0 ∷ 1 ∷ 0 ∷ 1 ∷ 2 ∷ 0 ∷ 1 ∷ 3 ∷ []))
+
 abbrev pub G : Type 0
-G =
-    Prints (patternFile 5 (settings ++ (4 ∷ 2 ∷ 3 ∷ 0 ∷ [])))
-    (modelFile 4 0 3 (node 0 ++ node 10 ++ node 10 ++ node 20 ++ (0 ∷ 0 ∷ 1 ∷ 0 ∷ 1 ∷ 2 ∷ 0 ∷ 1 ∷ 3 ∷ [])))
-    "met 0 1"
+G = Prints patternG modelG "met 0 1"
 
 -- "H: not same and not differ over G's paths, one node without edges: `met 0 1`."
 abbrev pub H : Type 0
@@ -223,8 +227,27 @@ Job4 =
     × (destinationAfter (orderingOf older 48) (replicate 48 9) ≡ newer ++ (9 ∷ 9 ∷ []))
     × (destinationAfter (orderingOf older 45) (replicate 45 9) ≡ replicate 45 9)
 
+-- 02, Job 5: "8 bytes for each node entry of the pattern, and zero just those. Refusal 9 for models is given below that length." G's three
+-- node entries behind two paths: 24 bytes, and 23; what becomes of areas of 26 and of 23; one node entry, behind a path that it doesn't reach,
+-- with 8 bytes and with 7; three node entries of which the root reaches two; a pattern that is refused wants none; and 9 comes behind the
+-- pattern's refusals and before 10.
+abbrev pub Job5 : Type 0
+Job5 =
+    (areaWanted patternG ≡ 24)
+    × (judgingOf patternG modelG 24 ≡ found (met 0 1))
+    × (judgingOf patternG modelG 23 ≡ refused 9 0)
+    × (areaAfter patternG (judgingOf patternG modelG 26) (replicate 26 9) ≡ replicate 24 0 ++ (9 ∷ 9 ∷ []))
+    × (areaAfter patternG (judgingOf patternG modelG 23) (replicate 23 9) ≡ replicate 23 9)
+    × (judgingOf patternJump (modelFile 1 0 0 (node 0)) 8 ≡ refused 27 5)
+    × (judgingOf patternJump (modelFile 1 0 0 (node 0)) 7 ≡ refused 9 0)
+    × (areaWanted patternAfter ≡ 24)
+    × (areaWanted (patternFile 1 (3 ∷ 0 ∷ 0 ∷ 0 ∷ [])) ≡ 0)
+    × (judgingOf (patternFile 1 (3 ∷ 0 ∷ 0 ∷ 0 ∷ [])) [] 0 ≡ refused 6 0)
+    × (judgingOf patternG [] 23 ≡ refused 9 0)
+    × (judgingOf patternG [] 24 ≡ refused 10 0)
+
 abbrev pub readings : List (Type 0)
-readings = A ∷ B ∷ C ∷ D ∷ E ∷ F ∷ G ∷ H ∷ I ∷ J ∷ Job1 ∷ Job2 ∷ Job3 ∷ Job4 ∷ []
+readings = A ∷ B ∷ C ∷ D ∷ E ∷ F ∷ G ∷ H ∷ I ∷ J ∷ Job1 ∷ Job2 ∷ Job3 ∷ Job4 ∷ Job5 ∷ []
 
 -- ---- laws
 
@@ -272,5 +295,5 @@ I-holds = (always-unmet, files, any)
         go (refuses number place) e = inr (number, (place, judging-refuses patternI ds size number place e))
 
 pub readings-hold : All readings
-unfolding readingOf patternCheck headerCheck entryCheck rootCheck eachField someBelow eachBelow sameBytes judgingBy judgingCheck namesCheck modelCheck file.headerCheck nameCheck edgeCheck orderCheck recordCheck comesBefore isListed nodeAt nodeWithin pathWithin holdsTest leadsTest judgedBy lowestBelow countBelow leadsIn nodeNamed tableau.judgingOf tableau.judgingCheck tableau.headerCheck tableau.runOf run stepping ruleAt stepAt stepsFrom branchHas usesName digitsWithin listBelow edgesOf frontOf orderedFile fileWithin orderingOf onto
-readings-hold = (refl, (refl, (refl, (refl, (refl, (refl, (refl, (refl, (I-holds, ((refl, refl, refl, refl), ((refl, refl, refl, refl, refl), ((refl, refl, refl, refl), ((refl, refl, refl, refl, refl, refl, refl, refl, refl), ((refl, refl, refl, refl, refl, refl, refl, refl, refl, refl), tt))))))))))))))
+unfolding readingOf patternCheck headerCheck entryCheck rootCheck eachField someBelow eachBelow sameBytes judgingBy judgingCheck namesCheck modelCheck file.headerCheck nameCheck edgeCheck orderCheck recordCheck comesBefore isListed nodeAt nodeWithin pathWithin holdsTest leadsTest judgedBy lowestBelow countBelow leadsIn nodeNamed tableau.judgingOf tableau.judgingCheck tableau.headerCheck tableau.runOf run stepping ruleAt stepAt stepsFrom branchHas usesName digitsWithin listBelow edgesOf frontOf orderedFile fileWithin orderingOf onto cleared
+readings-hold = (refl, (refl, (refl, (refl, (refl, (refl, (refl, (refl, (I-holds, ((refl, refl, refl, refl), ((refl, refl, refl, refl, refl), ((refl, refl, refl, refl), ((refl, refl, refl, refl, refl, refl, refl, refl, refl), ((refl, refl, refl, refl, refl, refl, refl, refl, refl, refl), ((refl, refl, refl, refl, refl, refl, refl, refl, refl, refl, refl, refl), tt)))))))))))))))

@@ -28,9 +28,12 @@ tagAt slot = endOfPath + 1 + slot
 abbrev pub tagOf : List ℕ → ℕ → ℕ
 tagOf marks slot = getD marks (tagAt slot) 0
 
--- the set of node entry k is in the area
+-- the set of node entry k is in the area, at one less than the mark
 abbrev pub isKnown : List ℕ → ℕ → Bool
 isKnown marks k = not (eqb (markOf marks k) 0)
+
+abbrev pub setPlace : List ℕ → ℕ → ℕ
+setPlace marks k = markOf marks k - 1
 
 -- the mark of a path is the slot that it was given last; it has its rows there if the slot's tag says so
 abbrev pub tagFor : ℕ → ℕ

@@ -1,5 +1,5 @@
 // What was learned: for each entry its mark, and for each slot of the rows its tag. The mark of a node
-// entry is 0 until its set is in the area. The mark of a path is the slot that it was given last, and the
+// entry is 0 until its set is in the area, and then one more than the set's place there. The mark of a path is the slot that it was given last, and the
 // tag of a slot says whose rows it has: it is END less the number of the path, so that at first every
 // slot has the tag of the end of path. The rows of the end of path are in slot 0, which no other path is
 // given.
@@ -13,7 +13,7 @@ ghost use Rattle.nodeset.specs.Set.{width};
 ghost use Rattle.nodeset.specs.Stored.{tableBytes};
 ghost use Rattle.pattern.specs.File.Entries.{HasEntry, entryAt};
 ghost use Rattle.pattern.specs.File.Fields.{eachField};
-ghost use Rattle.slots.specs.Marks.{markOf, tagOf, tagFor, isKnown, isHeld, fieldHeld, firstRow, rowOfPath};
+ghost use Rattle.slots.specs.Marks.{markOf, tagOf, tagFor, isKnown, setPlace, isHeld, fieldHeld, firstRow, rowOfPath};
 
 // A mark for each entry and for the end of path, and a tag for each slot.
 pub const MARKS_BYTES: usize = 2 * TAGS;
@@ -26,6 +26,14 @@ pub fn is_known(marks: &[u8; MARKS_BYTES], k: u8) -> bool
     ensures { λ r. ⌜ r ≡ isKnown (now (marks .entry)) k ⌝ }
 {
     marks[k as usize] != 0
+}
+
+// Where in the area the set of a marked node entry k is.
+pub fn set_place(marks: &[u8; MARKS_BYTES], k: u8) -> u8
+    requires { ⌜ 0 < markOf (now marks) k ⌝ }
+    ensures { λ r. ⌜ r ≡ setPlace (now (marks .entry)) k ⌝ }
+{
+    marks[k as usize] - 1
 }
 
 // The slot that a path was given last.

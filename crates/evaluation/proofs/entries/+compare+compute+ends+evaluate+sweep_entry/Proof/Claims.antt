@@ -24,6 +24,7 @@ use Rattle.relations.proofs.kinds.node_kind.Reads as node-kind-reads
 use Rattle.nodeset.proofs.NodeSet.only.Reads as only-reads
 use Rattle.relations.proofs.kinds.path_kind.Reads as path-kind-reads
 use Rattle.slots.proofs.marks.row_of_path.Reads as row-of-path-reads
+use Rattle.slots.proofs.marks.set_place.Reads as set-place-reads
 use Rattle.relations.proofs.values.some_pair.Reads as some-pair-reads
 use Rattle.nodeset.proofs.NodeSet.store.Reads as store-reads
 use Rattle.relations.proofs.model.with_name.Reads as with-name-reads
@@ -126,6 +127,8 @@ abbrev pub evaluate-claims : ℕ → evaluate-lts.Claims
 evaluate-claims t = (
   is-known-reads.Asked,
   is-known-reads.Learnt,
+  set-place-reads.Asked,
+  set-place-reads.Learnt,
   load-reads.Asked,
   load-reads.Learnt,
   below 6 compute-kinds.ps μ-compute compute.Pre t,
