@@ -1,5 +1,5 @@
 // What a linked program gets: one number, a packed finding. include/riser.h says how to take it apart.
-use model::judge::ModelFinding;
+use model::finding::ModelFinding;
 use model_order::OrderFinding;
 use pattern::finding::PatternRead;
 use tableau::finding::TableauFinding;

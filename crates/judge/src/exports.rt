@@ -8,7 +8,7 @@ use answers::model_answer;
 use answers::order_answer;
 use answers::read_answer;
 use answers::tableau_answer;
-use model::judge::area_wanted;
+use model_judge::area_wanted;
 use model_order::put_in_order;
 use pattern_read::read;
 ghost use mathlib.Core.Path.{_≡_};

@@ -3,7 +3,7 @@
 // judgement. `exports` has what programs in C and Rust link.
 pub mod exports;
 
-use model::judge::ModelFinding;
+use model::finding::ModelFinding;
 use tableau::finding::TableauFinding;
 ghost use Rattle.model.specs.Judging as model-specs;
 ghost use Rattle.tableau.specs.Judging as tableau-specs;
@@ -16,7 +16,7 @@ pub const AREA: usize = tableau_judge::judge::AREA;
 pub fn judge_model(p: &[u8], d: &[u8], area: &mut [u8]) -> ModelFinding
     ensures { λ r. ⌜ ModelPromise (now (p .entry)) (now (d .entry)) (now (area .entry)) (model-specs.findingOf r) (now (area .exit)) ⌝ }
 {
-    model::judge::judge(p, d, area)
+    model_judge::judge(p, d, area)
 }
 
 // Judges a tableau. If it closes, the root holds at no node of a finite data model of any size, and

@@ -34,9 +34,8 @@ use Rattle.model_records.specs.Order.{edgeAt, EdgesRise}
 use Rattle.model_records.specs.Rising.{Ordered, no-repeat}
 use Rattle.model_records.specs.Checks.{modelCheck}
 use Rattle.model_records.specs.Valid.{ValidModel, model-valid, model-accepted, model-unordered, all-named}
-use Rattle.model.specs.declared.judge.JudgeRefusal.{JudgeRefusal}
-use Rattle.model.specs.declared.judge.JudgeCheck.{JudgeCheck}
-use Rattle.model.specs.declared.judge.ModelFinding.{ModelFinding}
+use Rattle.model.specs.declared.finding.JudgeRefusal.{JudgeRefusal}
+use Rattle.model.specs.declared.finding.ModelFinding.{ModelFinding}
 
 -- 02, Job 5: "8 bytes for each node entry of the pattern": what judging a model wants of its working area, and zeroes; they are those of
 -- evaluation's sets, `areaBytes`
@@ -116,11 +115,6 @@ findingOf ModelFinding.Unmet = found unmet
 findingOf (ModelFinding.Refused refusal) = refused (refusalNumber refusal) (refusalPlace refusal)
 
 -- ---- laws
-
--- the outcome of the code's checks
-abbrev pub checkOf : JudgeCheck → Check
-checkOf JudgeCheck.Passed = passes
-checkOf (JudgeCheck.Refused refusal) = refuses (refusalNumber refusal) (refusalPlace refusal)
 
 -- ---- the names of the pattern
 

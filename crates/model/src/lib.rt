@@ -1,2 +1,2 @@
-// Judging a model: the refusals of documents 01 and 02 in their order, and the judgement.
-pub mod judge;
+// Judging a model: what is found of one, and what that says.
+pub mod finding;

@@ -6,7 +6,7 @@ use judge::judge_model;
 use judge::judge_tableau;
 pub use line::LINE_BYTES;
 use line::Report;
-use model::judge::ModelFinding;
+use model::finding::ModelFinding;
 use tableau::finding::TableauFinding;
 ghost use mathlib.Core.Path.{_≡_};
 ghost use lib.ListN.{length};

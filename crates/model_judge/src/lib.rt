@@ -1,7 +1,8 @@
 // Judging a model: the refusals of document 01 in its order, among them document 02's 28 and behind
 // them its 27, and then met, with the lowest node and the number of nodes, or unmet.
+use model::finding::JudgeRefusal;
+use model::finding::ModelFinding;
 use model_file::ModelCheck;
-use model_file::ModelRefusal;
 use model_file::check;
 use model_file::listed_names;
 use model_records::Order;
@@ -9,7 +10,6 @@ use model_tables::root_nodes;
 use names::used_names;
 use nodeset::NodeSet;
 use pattern::finding::PatternRead;
-use pattern::finding::PatternRefusal;
 use pattern::types::Name;
 use pattern_read::read;
 use slots::area::area_bytes;
@@ -22,54 +22,12 @@ ghost use Rattle.decision.specs.Judged.{judgedBy};
 ghost use Rattle.model_records.specs.declared.Order.{Order};
 ghost use Rattle.model_records.specs.Checks.{modelCheck};
 ghost use Rattle.model_records.specs.Valid.{ValidModel};
-ghost use Rattle.model.specs.Judging.{areaWanted, namesCheck, judgingOf, areaAfter, refusalNumber, refusalPlace, checkOf, findingOf};
-
-// The refusals of judging a model: document 01's 1 to 8 of the pattern, 9 of the working area and 10 to
-// 14 of the model file, with document 02's 28, and its 27, which holds the name that isn't listed.
-pub enum JudgeRefusal {
-    Pattern(PatternRefusal),
-    Area,
-    Model(ModelRefusal),
-    Unlisted(u8),
-}
-
-impl JudgeRefusal {
-    // The documents' number of the refusal.
-    pub fn number(self) -> u8
-        ensures { λ r. ⌜ r ≡ refusalNumber self ⌝ }
-    {
-        match self {
-            JudgeRefusal::Pattern(refusal) => refusal.number(),
-            JudgeRefusal::Area => 9,
-            JudgeRefusal::Model(refusal) => refusal.number(),
-            JudgeRefusal::Unlisted(_) => 27,
-        }
-    }
-
-    // Its place: the number of the entry or of the record, the name, or 0.
-    pub fn place(self) -> u16
-        ensures { λ r. ⌜ r ≡ refusalPlace self ⌝ }
-    {
-        match self {
-            JudgeRefusal::Pattern(refusal) => refusal.place() as u16,
-            JudgeRefusal::Area => 0,
-            JudgeRefusal::Model(refusal) => refusal.place(),
-            JudgeRefusal::Unlisted(name) => name as u16,
-        }
-    }
-}
+ghost use Rattle.model.specs.Judging.{areaWanted, namesCheck, judgingOf, areaAfter, findingOf};
+ghost use Rattle.model_judge.specs.Checked.{checkOf};
 
 // How the refusals came out.
 enum JudgeCheck {
     Passed,
-    Refused(JudgeRefusal),
-}
-
-// What judging a model finds: the root holds at some node, with the lowest such node and their
-// number; it holds at none; or the first refusal.
-pub enum ModelFinding {
-    Met(u8, u8),
-    Unmet,
     Refused(JudgeRefusal),
 }
 

@@ -1,4 +1,4 @@
--- `model::judge::check_model` meets its contract: the file decides, and where it passes the names.
+-- `model_judge::check_model` meets its contract: the file decides, and where it passes the names.
 -- Assumes nothing.
 use borrow.Author.Needs.{needs}
 use mathlib.Core.Path.{_≡_, sym, _∙_, ap}
@@ -7,8 +7,8 @@ use Rattle.model_records.specs.declared.Order.{Order}
 use Rattle.model_records.specs.Checks.{modelCheck}
 use Rattle.model_file.specs.Enums.{checkOf}
 use Rattle.model_records.specs.Valid.{model-valid}
-use Rattle.model.proofs.judge.check_model.Statement.{statement}
-use Rattle.model.proofs.judge.check_model.Tie as tie
+use Rattle.model_judge.proofs.check_model.Statement.{statement}
+use Rattle.model_judge.proofs.check_model.Tie as tie
 
 check-requires : tie.Need-check-requires
 check-requires c κs = search needs

@@ -1,13 +1,13 @@
--- `model::judge::judge` meets its contract: a pattern that is refused is so first.
+-- `model_judge::judge` meets its contract: a pattern that is refused is so first.
 -- Assumes nothing.
 use borrow.Author.Needs.{needs}
 use mathlib.Core.Path.{refl, sym, _∙_, ap}
 use lib.ListN.{length}
 use Rattle.pattern.specs.File.Reading.{findingOf}
 use Rattle.pattern.specs.File.Valid.{read-refuses}
 use Rattle.model.specs.Judging.{judgingBy, judgingCheck}
-use Rattle.model.proofs.judge.judge.Statement.{statement}
-use Rattle.model.proofs.judge.judge.Tie as tie
+use Rattle.model_judge.proofs.judge.Statement.{statement}
+use Rattle.model_judge.proofs.judge.Tie as tie
 
 read-requires : tie.Need-read-requires
 read-requires c κs = search needs

@@ -1,4 +1,4 @@
--- `model::judge::judge_read` meets its contract: 9 decides, or the checks of the model, or where the root holds.
+-- `model_judge::judge_read` meets its contract: 9 decides, or the checks of the model, or where the root holds.
 -- Assumes nothing.
 use borrow.Author.Needs.{needs}
 use mathlib.Core.Path.{_≡_, refl, sym, _∙_, ap}
@@ -10,9 +10,10 @@ use Rattle.pattern.specs.Checks.Finding.{found, passes}
 use Rattle.pattern.specs.File.Reading.{patternCheck}
 use Rattle.pattern.specs.File.Valid.{valid-read, read-passes}
 use Rattle.model_records.specs.declared.Order.{Order}
-use Rattle.model.specs.Judging.{areaNeed, judgingCheck, Allowed, checkOf, area-decides, model-decides, checks-pass, judging-finds, judging-refuses, root-judged}
-use Rattle.model.proofs.judge.judge_read.Statement.{statement}
-use Rattle.model.proofs.judge.judge_read.Tie as tie
+use Rattle.model.specs.Judging.{areaNeed, judgingCheck, Allowed, area-decides, model-decides, checks-pass, judging-finds, judging-refuses, root-judged}
+use Rattle.model_judge.specs.Checked.{checkOf}
+use Rattle.model_judge.proofs.judge_read.Statement.{statement}
+use Rattle.model_judge.proofs.judge_read.Tie as tie
 
 area-bytes-requires : tie.Need-area-bytes-requires
 area-bytes-requires c κs = search needs

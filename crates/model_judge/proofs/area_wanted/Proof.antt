@@ -1,12 +1,12 @@
--- `model::judge::area_wanted` meets its contract.
+-- `model_judge::area_wanted` meets its contract.
 -- Assumes nothing.
 use borrow.Author.Needs.{needs}
 use mathlib.Core.Path.{_≡_, sym, _∙_, ap}
 use Rattle.pattern.specs.Checks.Finding.{found}
 use Rattle.pattern.specs.File.Reading.{readingOf, findingOf}
 use Rattle.pattern.specs.File.Valid.{read-passes, read-refuses}
-use Rattle.model.proofs.judge.area_wanted.Statement.{statement}
-use Rattle.model.proofs.judge.area_wanted.Tie as tie
+use Rattle.model_judge.proofs.area_wanted.Statement.{statement}
+use Rattle.model_judge.proofs.area_wanted.Tie as tie
 
 read-requires : tie.Need-read-requires
 read-requires c κs = search needs

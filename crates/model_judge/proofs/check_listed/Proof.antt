@@ -1,4 +1,4 @@
--- `model::judge::check_listed` meets its contract: its lowest name is the lowest that is used and not listed.
+-- `model_judge::check_listed` meets its contract: its lowest name is the lowest that is used and not listed.
 -- Assumes nothing.
 use borrow.Author.Needs.{needs}
 use mathlib.Core.Path.{_≡_, sym, _∙_, ap, ap₂}
@@ -10,9 +10,9 @@ use Rattle.pattern.specs.Checks.Finding.{refuses}
 use Rattle.pattern.specs.File.Types.{maxName}
 use Rattle.names.specs.declared.NameSet.{NameSet}
 use Rattle.names.specs.Set.{has, has-minus}
 use Rattle.model.specs.Judging.{isMissing, lowest-refused, lowest-passes}
-use Rattle.model.proofs.judge.check_listed.Statement.{statement}
-use Rattle.model.proofs.judge.check_listed.Tie as tie
+use Rattle.model_judge.proofs.check_listed.Statement.{statement}
+use Rattle.model_judge.proofs.check_listed.Tie as tie
 
 used-names-requires : tie.Need-used-names-requires
 used-names-requires c κs = c .before .before .pre .0

@@ -1,4 +1,4 @@
--- `model::judge::judged` meets its contract, by the laws of `judgedBy`.
+-- `model_judge::judged` meets its contract, by the laws of `judgedBy`.
 -- Assumes nothing.
 use borrow.Author.Needs.{needs}
 use Prim.Native.Nat.{ℕ}
@@ -8,8 +8,8 @@ use Rattle.nodeset.specs.Set.{width, has, sizeOf}
 use Rattle.pattern.specs.Checks.Finding.{found}
 use Rattle.decision.specs.Judged.{met, judged-empty, judged-low}
 use Rattle.nodeset.specs.Members.{lowest-member}
-use Rattle.model.proofs.judge.judged.Statement.{statement}
-use Rattle.model.proofs.judge.judged.Tie as tie
+use Rattle.model_judge.proofs.judged.Statement.{statement}
+use Rattle.model_judge.proofs.judged.Tie as tie
 
 is-empty-requires : tie.Need-is-empty-requires
 is-empty-requires c κs = search needs
