@@ -20,5 +20,8 @@ int main(void)
     int model = refuses("riser_judge_model", riser_judge_model(NULL, 0, NULL, 0, NULL, 0), 1);
     int tableau = refuses("riser_judge_tableau", riser_judge_tableau(NULL, 0, NULL, 0, NULL, 0), 1);
     int order = refuses("riser_order", riser_order(NULL, 0, NULL, 0), 10);
-    return read && model && tableau && order ? 0 : 1;
+    size_t area = riser_model_area(NULL, 0);
+    if (area != 0)
+        fprintf(stderr, "empty: riser_model_area answered %zu for no bytes\n", area);
+    return read && model && tableau && order && area == 0 ? 0 : 1;
 }

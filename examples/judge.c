@@ -43,7 +43,9 @@ static void print(uint64_t answer)
 
 int main(int count, char **arguments)
 {
-    static uint8_t pattern[PATTERN_BYTES], proposal[PROPOSAL_BYTES], area[RISER_TABLEAU_AREA];
+    /* Room for a tableau's working area; of it a model is lent what its pattern wants. */
+    static uint8_t area[RISER_TABLEAU_AREA];
+    static uint8_t pattern[PATTERN_BYTES], proposal[PROPOSAL_BYTES];
     size_t pattern_length, proposal_length;
 
     if (count != 3) {
@@ -56,6 +58,7 @@ int main(int count, char **arguments)
     if (proposal_length >= 3 && memcmp(proposal, "TAB", 3) == 0)
         print(riser_judge_tableau(pattern, pattern_length, proposal, proposal_length, area, sizeof area));
     else
-        print(riser_judge_model(pattern, pattern_length, proposal, proposal_length, area, sizeof area));
+        print(riser_judge_model(pattern, pattern_length, proposal, proposal_length, area,
+                                riser_model_area(pattern, pattern_length)));
     return 0;
 }

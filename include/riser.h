@@ -1,12 +1,12 @@
 /* The proved judge, to link from C or C++: target/staticlib/libjudge.a, written by `rt staticlib judge`.
  *
- * Each function takes any bytes of any length and answers one number, a packed finding. A pointer may
- * be anything, NULL included, where its length is 0. The working area must overlap neither of the other
- * byte strings, and the destination must not overlap the old file. Nothing outside the given lengths is
- * read or written.
+ * Each function takes any bytes of any length and answers one number: riser_model_area a number of bytes,
+ * the others a packed finding. A pointer may be anything, NULL included, where its length is 0. The working
+ * area must overlap neither of the other byte strings, and the destination must not overlap the old file.
+ * Nothing outside the given lengths is read or written.
  *
- * Stack that was enough on the deepest inputs: 2.5 KB for reading, 60 KB for judging a model, 16 KB for
- * judging a tableau, 4.5 KB for putting a model in order. 64 KB are enough for all. */
+ * Stack that was enough on the deepest inputs: 2.5 KB for reading and for riser_model_area, 60 KB for judging
+ * a model, 16 KB for judging a tableau, 4.5 KB for putting a model in order. 64 KB are enough for all. */
 #ifndef RISER_H
 #define RISER_H
 
@@ -17,7 +17,8 @@
 extern "C" {
 #endif
 
-/* The bytes of working area that are enough for judging a model, for judging a tableau. */
+/* The bytes of working area that are always enough for judging a model, for judging a tableau;
+ * riser_model_area says how many are enough for the models of one pattern. */
 #define RISER_MODEL_AREA 2040
 #define RISER_TABLEAU_AREA 8192
 
@@ -43,11 +44,16 @@ static inline unsigned riser_part(uint64_t answer, unsigned k) { return (answer 
 /* Reads a pattern: RISER_READ, or RISER_REFUSED with number 1 to 8. */
 uint64_t riser_read(const uint8_t *pattern, size_t pattern_length);
 
+/* The bytes of working area that judging a model of a pattern wants: 8 for each entry that is a node, reached
+ * by the root or not, so 8 to RISER_MODEL_AREA; 0 for a pattern that is refused, which any area is enough
+ * for. */
+size_t riser_model_area(const uint8_t *pattern, size_t pattern_length);
+
 /* Judges a model of a pattern: RISER_MET, RISER_UNMET, or RISER_REFUSED with number 1 to 14, 27 or 28,
- * which leaves the area unchanged. Met and unmet leave its first 2,040 bytes zero and the rest unchanged. A
- * model must list every name that the pattern uses: 27 gives the lowest that isn't listed as its place. Its
- * edges must rise by from, then axis, then to, each once: 28 gives the first record that doesn't come after
- * the one before it. */
+ * which leaves the area unchanged. An area shorter than riser_model_area says is refused with 9. Met and
+ * unmet leave so many first bytes of it zero and the rest unchanged. A model must list every name that the
+ * pattern uses: 27 gives the lowest that isn't listed as its place. Its edges must rise by from, then axis,
+ * then to, each once: 28 gives the first record that doesn't come after the one before it. */
 uint64_t riser_judge_model(const uint8_t *pattern, size_t pattern_length, const uint8_t *model,
                            size_t model_length, uint8_t *area, size_t area_length);
 

@@ -2,7 +2,7 @@
 
 use std::fmt;
 
-/// A finding of any of the four operations, or a refusal with its number and place.
+/// A finding of any of the operations, or a refusal with its number and place.
 #[derive(Clone, Copy, Debug, PartialEq, Eq)]
 pub enum Finding {
     /// Reading a pattern: the number of its entries.
@@ -27,6 +27,10 @@ pub enum Finding {
     Written {
         length: u16,
     },
+    /// The bytes of working area that judging a model of a pattern wants.
+    Area {
+        bytes: usize,
+    },
     Refused(Refusal),
 }
 
@@ -36,7 +40,8 @@ pub struct Refusal {
     pub place: u16,
 }
 
-/// The line that the bench program prints (`read` with the count and `written` with the length, which it never prints).
+/// The line that the bench program prints (`read` with the count, and `written` and `area` with the length, which it
+/// never prints).
 impl fmt::Display for Finding {
     fn fmt(&self, f: &mut fmt::Formatter<'_>) -> fmt::Result {
         match self {
@@ -47,6 +52,7 @@ impl fmt::Display for Finding {
                 write!(f, "closed {steps} {clashes} {forks} {most}")
             }
             Finding::Written { length } => write!(f, "written {length}"),
+            Finding::Area { bytes } => write!(f, "area {bytes}"),
             Finding::Refused(Refusal { number, place }) => write!(f, "refused {number} {place}"),
         }
     }

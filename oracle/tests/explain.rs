@@ -33,6 +33,7 @@ fn reading_a() {
         "\
 Pattern of 4 entries, the root is e3:
   e3 := (<a0>p0 & !<a0>p0)
+Judging a model wants 32 bytes of working area: 4 node entries, 8 bytes each.
 {NOTATION}
 Tableau of 3 steps, start name n0 ([N] is line N of its branch; barred: no ends compare so):
   [0] n0 has (<a0>p0 & !<a0>p0)
@@ -90,6 +91,19 @@ Where the node entries hold:
 Finding: met 0 1. The root holds at 1 node, the lowest is node 0.
 ";
     assert_eq!(judgement(&pattern(&ENTRIES_G), &model_g()), expected);
+}
+
+/// Paths have no part in it, and entries that the root doesn't reach have.
+#[test]
+fn the_working_area_that_judging_a_model_wants() {
+    let says = |entries: &[[u8; 4]], words: &str| {
+        let wants = format!("\nJudging a model wants {words}, 8 bytes each.\nNotation: ");
+        let text = explain(&pattern(entries), &model_g());
+        assert!(text.contains(&wants), "{text}");
+    };
+    says(&ENTRIES_G, "24 bytes of working area: 3 node entries");
+    says(&[[8, 0, 255, 0], [7, 0, 0, 255]], "8 bytes of working area: 1 node entry");
+    says(&[[1, 0, 0, 0], [1, 1, 0, 0], [1, 2, 0, 0]], "24 bytes of working area: 3 node entries");
 }
 
 #[test]

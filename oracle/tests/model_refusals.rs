@@ -1,9 +1,8 @@
-//! Judging a model: refusals 9 to 14, 27 and 28, the limits, and the working area.
+//! Judging a model: refusals 10 to 14, 27 and 28, and the limits.
 
 mod common;
 
 use common::*;
-use oracle::model::judge;
 
 /// A pattern that every node meets: not a differing from itself.
 fn anywhere() -> Vec<u8> {
@@ -230,28 +229,4 @@ fn every_edge_of_4096_is_compared() {
         repeated[place] = repeated[place - 1];
         assert_eq!(of_edges(&repeated), format!("refused 28 {place}"));
     }
-}
-
-#[test]
-fn order_and_area() {
-    let good = small();
-    let check = |pattern: &[u8], model: &[u8], length, line, zeroed| {
-        check_area(judge, (pattern, model), length, line, zeroed);
-    };
-    check(&pattern(&[]), &[], 0, "refused 3 0", 0);
-    check(&anywhere(), &[], 2039, "refused 9 0", 0);
-    check(&anywhere(), &good, 2039, "refused 9 0", 0);
-    check(&anywhere(), &[], 2040, "refused 10 0", 0);
-    check(&anywhere(), &replaced(3, 2), 3000, "refused 11 0", 0);
-    let repeated = model(&[plain(1), plain(2)], &[], &[[0, 0, 1], [0, 0, 1]]);
-    check(&anywhere(), &repeated, 2039, "refused 9 0", 0);
-    check(&anywhere(), &repeated, 2040, "refused 28 1", 0);
-    check(&names_unreached(), &repeated, 9000, "refused 28 1", 0);
-    check(&names_unreached(), &listing(&[4]), 2039, "refused 9 0", 0);
-    check(&names_unreached(), &listing(&[4]), 2040, "refused 27 40", 0);
-    check(&names_unreached(), &listing(&[4]), 9000, "refused 27 40", 0);
-    check(&names_unreached(), &listing(&[4, 40, 90, 127]), 2041, "unmet", 2040);
-    check(&anywhere(), &good, 2040, "met 0 2", 2040);
-    check(&anywhere(), &good, 2041, "met 0 2", 2040);
-    check(&pattern(&[[7, 0, 255, 255]]), &good, 9000, "unmet", 2040);
 }

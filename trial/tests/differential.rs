@@ -3,6 +3,7 @@
 
 mod faults;
 
+use faults::area::{self, ASKED, MISPLACED, asked};
 use faults::edges::{self, Edges, unordered};
 use faults::fresh::{RIGHT, SEARCHES, SETS};
 use faults::model::{MISREADINGS, misread};
@@ -12,7 +13,7 @@ use faults::rows;
 use faults::slots::{COMPARINGS, compared};
 use faults::tableau::{self, Fault, NONE};
 use oracle::finding::{Finding, Refusal};
-use oracle::model::check_names;
+use oracle::model::{area_wanted, check_names};
 use trial::differential::compare::{Comparer, What};
 use trial::differential::guarded::Against;
 use trial::differential::implementation::{Implementation, Lent, ORACLE, UNIT, run_oracle};
@@ -96,6 +97,8 @@ fn check_situations(complete: &Tally) {
     for situation in [
         ("limit", "64 nodes judged"),
         ("names", "met, names used"),
+        ("areas", "found in as many bytes as wanted"),
+        ("areas wanted", "none of a pattern refused 8"),
         ("edges", "edge record 1 refused 28"),
         ("rows", "more paths in use than slots"),
         ("ends", "same by values of different nodes alone"),
@@ -133,6 +136,8 @@ fn everything_occurs_and_what_never_does_is_named() {
         missing(|tally| tally.refused[4][14].times = 0),
         ["refusal 14 of judging a model put in order"]
     );
+    assert_eq!(missing(|tally| assert!(tally.areas.remove(&0))), ["an area of 0 bytes wanted"]);
+    assert_eq!(missing(|tally| assert!(tally.areas.remove(&2040))), ["an area of 2040 bytes wanted"]);
     assert_eq!(missing(|tally| tally.rules[20].closed = 0), ["rule 20 in a closed tableau"]);
     assert_eq!(missing(|tally| tally.rules[3].refused[1] = 0), ["a step with rule 3 refused 21"]);
     assert_eq!(missing(|tally| tally.rules[14].refused[2] = 0), ["a step with rule 14 refused 22"]);
@@ -201,10 +206,13 @@ fn and_writes(operation: Operation, lent: Lent, (at, byte): (usize, u8)) -> Find
 #[test]
 fn one_byte_cleared_too_few_or_too_many_is_seen() {
     let last_of_model = seen(&|operation, lent| match operation {
-        Operation::Model => and_writes(operation, lent, (2039, 7)),
+        Operation::Model => {
+            let last = area_wanted(lent.pattern).saturating_sub(1);
+            and_writes(operation, lent, (last, 7))
+        }
         _ => run_oracle(operation, lent),
     });
-    assert!(matches!(last_of_model, What::Area { at: 2039, expected: 0, found: 7, .. }));
+    assert!(matches!(last_of_model, What::Area { at, expected: 0, found: 7, .. } if at % 8 == 7));
     let one_over = seen(&|operation, lent| match operation {
         Operation::Tableau => and_writes(operation, lent, (8192, 0)),
         _ => run_oracle(operation, lent),
@@ -257,6 +265,33 @@ fn mistakes_about_the_rows_of_paths_are_seen() {
 }
 
 #[test]
+fn mistakes_about_the_length_of_the_area_are_seen() {
+    for (words, refuses) in area::OTHER_FINDINGS {
+        let judge = area::Judge { refuses, ..area::RIGHT };
+        is_seen_among(words, &|operation, lent| judge.run(operation, lent));
+    }
+    for (words, bytes) in ASKED {
+        is_seen_among(words, &|operation, lent| asked(bytes, operation, lent));
+    }
+}
+
+#[test]
+fn mistakes_about_what_of_the_area_is_zeroed_are_seen() {
+    for (words, zeroes) in area::OTHER_BYTES {
+        let judge = area::Judge { zeroes, ..area::RIGHT };
+        let what = seen(&|operation, lent| judge.run(operation, lent));
+        assert!(matches!(what, What::Area { .. }), "{words}: {what:?}");
+    }
+}
+
+#[test]
+fn sets_that_share_a_place_are_seen() {
+    for (words, change) in MISPLACED {
+        is_seen_among(words, &|operation, lent| misread(change, operation, lent));
+    }
+}
+
+#[test]
 fn mistakes_about_the_names_to_be_listed_are_seen() {
     for (words, place) in MISTAKES {
         is_seen_among(words, &|operation, lent| mistaken(place, operation, lent));
@@ -289,7 +324,7 @@ fn an_area_cleared_by_refusal_27_or_28_is_seen() {
         let what = seen(&|operation, Lent { pattern, proposal, area }| {
             let finding = run_oracle(operation, Lent { pattern, proposal, area: &mut *area });
             if finding.to_string().starts_with(refused) {
-                area[..2040].fill(0);
+                area[..8].fill(0);
             }
             finding
         });
@@ -345,6 +380,9 @@ fn the_planted_judges_are_right_without_a_fault() {
     let lowest = |pattern: &_, model: &_| check_names(pattern, model).err().map(|refusal| refusal.place);
     assert!(planted(&|operation, lent| mistaken(lowest, operation, lent)).is_ok());
     assert!(planted(&|operation, lent| unordered(Edges::right, operation, lent)).is_ok());
+    assert!(planted(&|operation, lent| area::RIGHT.run(operation, lent)).is_ok());
+    assert!(planted(&|operation, lent| asked(area_wanted, operation, lent)).is_ok());
+    assert!(planted(&|operation, lent| misread(area::in_place, operation, lent)).is_ok());
     assert!(planted(&|operation, lent| NONE.run(operation, lent)).is_ok());
     assert!(planted(&|operation, lent| rows::RIGHT.run(operation, lent)).is_ok());
     assert!(planted(&|operation, lent| rows::SWEEPING.run(operation, lent)).is_ok());

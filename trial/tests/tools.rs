@@ -106,23 +106,41 @@ fn one_input_is_shown_in_full() {
     assert_eq!(shown, text(&run(DIFFERENTIAL, &["--only", "77", "--seed", "3"]).stdout));
 }
 
-#[test]
-fn a_model_to_be_put_in_order_is_shown_in_full() {
+/// What is shown of the first input of the operation, with lines that begin so.
+fn shown_of(operation: Operation, beginnings: [&str; 4]) -> String {
     let mut input = Input::blank();
     let mut generator = Generator::new(1);
     let is_such = |number: &u64| {
         generator.make(*number, &mut input);
-        input.operation == Operation::Ordering
+        input.operation == operation
     };
-    let number = (0..BLOCK).find(is_such).expect("a model to be put in order");
+    let number = (0..BLOCK).find(is_such).expect("an input of the operation");
     let output = run(DIFFERENTIAL, &["--only", &number.to_string()]);
     assert_eq!(output.status.code(), Some(0));
     let shown = text(&output.stdout);
-    for beginning in ["operation   putting a model in order", "old file    ", "destination ", "unit        "]
-    {
+    for beginning in beginnings {
         assert!(shown.lines().any(|line| line.starts_with(beginning)), "{beginning:?} in {shown}");
     }
+    shown
+}
+
+#[test]
+fn a_model_to_be_put_in_order_is_shown_in_full() {
+    let beginnings = ["operation   putting a model in order", "old file    ", "destination ", "unit        "];
+    let shown = shown_of(Operation::Ordering, beginnings);
     assert!(!shown.contains("pattern"), "{shown}");
+}
+
+#[test]
+fn a_pattern_whose_area_is_asked_for_is_shown_in_full() {
+    let beginnings = [
+        "operation   asking for the area of a pattern",
+        "pattern     ",
+        "unit        area ",
+        "fast        area ",
+    ];
+    let shown = shown_of(Operation::Area, beginnings);
+    assert!(!shown.lines().any(|line| line.starts_with("proposal") || line.starts_with("area")), "{shown}");
 }
 
 #[test]

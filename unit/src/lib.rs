@@ -3,17 +3,18 @@
 //! ```
 //! let pattern = b"PAT\x01\x00\x01\x01\x00\x00\x00"; // one entry: property 0
 //! let model = b"DAT\x01\x00\x01\x00\x00\x00\x01\x00\x00\x00\x00\x00\x00\x00\x00\x00\x00\x00"; // one node that has it
-//! let mut area = [0; unit::MODEL_AREA];
+//! let mut area = vec![0; unit::model_area(pattern)];
 //! let finding = unit::judge_model(pattern, model, &mut area);
 //! assert_eq!(finding, unit::Finding::Met { lowest: 0, number: 1 });
 //! ```
 //!
-//! Stack that was enough on the deepest inputs: 2.5 KB for reading, 60 KB for judging a model, 16 KB for
-//! judging a tableau, 4.5 KB for putting a model in order. 64 KB are enough for all.
+//! Stack that was enough on the deepest inputs: 2.5 KB for reading and for `model_area`, 60 KB for judging a model,
+//! 16 KB for judging a tableau, 4.5 KB for putting a model in order. 64 KB are enough for all.
 
 use std::fmt;
 
-/// The bytes of working area that are enough for judging a model.
+/// The bytes of working area that are always enough for judging a model; `model_area` says how many are enough for
+/// one pattern.
 pub const MODEL_AREA: usize = 2040;
 
 /// The bytes of working area that are enough for judging a tableau.
@@ -42,6 +43,7 @@ pub enum Finding {
 mod linked {
     unsafe extern "C" {
         pub fn riser_read(pattern: *const u8, pattern_length: usize) -> u64;
+        pub fn riser_model_area(pattern: *const u8, pattern_length: usize) -> usize;
         pub fn riser_judge_model(
             pattern: *const u8,
             pattern_length: usize,
@@ -73,9 +75,17 @@ pub fn read(pattern: &[u8]) -> Finding {
     unpacked(unsafe { linked::riser_read(pattern.as_ptr(), pattern.len()) })
 }
 
-/// Judges a model of a pattern; `MODEL_AREA` bytes of area are enough. A model must list every name that the
-/// pattern uses: refusal 27 gives the lowest that isn't listed as its place. Its edges must rise by from, then
-/// axis, then to, each once: refusal 28 gives the first record that doesn't come after the one before it.
+/// The bytes of working area that judging a model of a pattern wants: 8 for each entry that is a node, reached by the
+/// root or not, so 8 to `MODEL_AREA`; 0 for a pattern that is refused, which any area is enough for.
+pub fn model_area(pattern: &[u8]) -> usize {
+    // SAFETY: as in `read`.
+    unsafe { linked::riser_model_area(pattern.as_ptr(), pattern.len()) }
+}
+
+/// Judges a model of a pattern; `model_area` says how many bytes of area it wants, and a shorter one is refused 9. Met
+/// and unmet zero so many first bytes of it and leave the others; a refusal leaves all of them. A model must list every
+/// name that the pattern uses: refusal 27 gives the lowest that isn't listed as its place. Its edges must rise by from,
+/// then axis, then to, each once: refusal 28 gives the first record that doesn't come after the one before it.
 pub fn judge_model(pattern: &[u8], model: &[u8], area: &mut [u8]) -> Finding {
     // SAFETY: the slices are readable, and the area writable, for their lengths; the area is borrowed
     // for writing and so overlaps neither of the others.

@@ -1,30 +1,83 @@
 //! The wrapper on the sample files: each line is the one that `crates/readings/stdout` has.
 
 use std::fs;
-use std::path::Path;
+use std::path::{Path, PathBuf};
 
 use unit::{Finding, MODEL_AREA, MODEL_LONGEST, TABLEAU_AREA};
 
-/// The finding that the bench program prints for two files; a file that can't be opened counts as empty.
-fn judged(folder: &Path) -> Finding {
-    let pattern = fs::read(folder.join("pattern.bin")).unwrap_or_default();
-    let proposal = fs::read(folder.join("proposal.bin")).unwrap_or_default();
-    if proposal.starts_with(b"TAB") {
-        unit::judge_tableau(&pattern, &proposal, &mut [0; TABLEAU_AREA])
-    } else {
-        unit::judge_model(&pattern, &proposal, &mut [0; MODEL_AREA])
-    }
+/// The sample folders with the lines that are listed for them.
+fn listed() -> Vec<(PathBuf, String)> {
+    let readings = Path::new(env!("CARGO_MANIFEST_DIR")).join("../crates/readings");
+    let lines = fs::read_to_string(readings.join("stdout")).expect("crates/readings/stdout");
+    let sample = |line: &str| {
+        let (name, finding) = line.split_once(": ").expect("name: finding");
+        (readings.join("data").join(name), finding.to_string())
+    };
+    let samples: Vec<(PathBuf, String)> = lines.lines().map(sample).collect();
+    assert!(samples.len() > 100);
+    samples
+}
+
+/// The two files of a sample; one that can't be opened counts as empty.
+fn files(folder: &Path) -> [Vec<u8>; 2] {
+    ["pattern.bin", "proposal.bin"].map(|name| fs::read(folder.join(name)).unwrap_or_default())
 }
 
 #[test]
 fn every_sample_is_judged_as_listed() {
-    let readings = Path::new(env!("CARGO_MANIFEST_DIR")).join("../crates/readings");
-    let listed = fs::read_to_string(readings.join("stdout")).expect("crates/readings/stdout");
-    for line in listed.lines() {
-        let (name, finding) = line.split_once(": ").expect("name: finding");
-        assert_eq!(judged(&readings.join("data").join(name)).to_string(), finding, "{name}");
+    for (folder, line) in listed() {
+        let [pattern, proposal] = files(&folder);
+        let finding = if proposal.starts_with(b"TAB") {
+            unit::judge_tableau(&pattern, &proposal, &mut [0; TABLEAU_AREA])
+        } else {
+            unit::judge_model(&pattern, &proposal, &mut [0; MODEL_AREA])
+        };
+        assert_eq!(finding.to_string(), line, "{}", folder.display());
     }
-    assert!(listed.lines().count() > 100);
+}
+
+/// A model judged in an area of so many bytes: the line, and how many first bytes became zero; the others must stay.
+fn judged_in(length: usize, [pattern, model]: &[Vec<u8>; 2]) -> (String, usize) {
+    let mut area = vec![7; length];
+    let finding = unit::judge_model(pattern, model, &mut area);
+    let zeroed = area.iter().take_while(|&&byte| byte == 0).count();
+    assert!(area[zeroed..].iter().all(|&byte| byte == 7));
+    (finding.to_string(), zeroed)
+}
+
+#[test]
+fn every_model_is_judged_in_the_area_that_its_pattern_wants() {
+    let models = listed().into_iter().filter(|(folder, _)| !files(folder)[1].starts_with(b"TAB"));
+    for (folder, line) in models {
+        let (files, name) = (files(&folder), folder.display());
+        let wanted = unit::model_area(&files[0]);
+        let is_read = matches!(unit::read(&files[0]), Finding::Read { .. });
+        assert_eq!(wanted > 0, is_read, "{name}");
+        let zeroed = if line.starts_with("refused") { 0 } else { wanted };
+        for length in [wanted, wanted + 1, wanted + 8, MODEL_AREA, MODEL_AREA + 9] {
+            assert_eq!(judged_in(length, &files), (line.clone(), zeroed), "{name} in {length} bytes");
+        }
+        for length in [0, wanted.saturating_sub(8), wanted.saturating_sub(1)] {
+            let line = if is_read { "refused 9 0" } else { &line };
+            assert_eq!(judged_in(length, &files), (line.to_string(), 0), "{name} in {length} bytes");
+        }
+    }
+}
+
+#[test]
+fn the_area_of_a_pattern_goes_by_its_node_entries() {
+    let pattern = |entries: &[[u8; 4]]| {
+        [&[b'P', b'A', b'T', 1, 0, entries.len() as u8], entries.as_flattened()].concat()
+    };
+    let wanted = |entries: &[[u8; 4]]| unit::model_area(&pattern(entries));
+    assert_eq!(wanted(&[[1, 0, 0, 0]]), 8);
+    assert_eq!(wanted(&[[8, 0, 255, 0], [8, 1, 255, 0], [6, 0, 0, 1]]), 8);
+    assert_eq!(wanted(&[[1, 0, 0, 0], [8, 0, 255, 0], [1, 1, 0, 0], [1, 2, 0, 0]]), 24);
+    let nots: Vec<[u8; 4]> = (0..254).map(|entry| [3, entry, 0, 0]).collect();
+    assert_eq!(wanted(&[&[[1, 0, 0, 0]], &nots[..]].concat()), MODEL_AREA);
+    assert_eq!(unit::model_area(b""), 0);
+    assert_eq!(wanted(&[[1, 0, 0, 0], [1, 0, 0, 0]]), 0);
+    assert_eq!(wanted(&[[1, 0, 0, 0], [8, 0, 255, 0]]), 0);
 }
 
 #[test]
@@ -43,15 +96,15 @@ fn a_name_of_the_pattern_that_is_not_listed_is_refused() {
         let header = [b'D', b'A', b'T', 1, 0, 1, names.len() as u8, 0, 0];
         [&header[..], &[1, 0, 0, 0, 0, 0, 0, 0, 0, 0, 0, 0], names.as_flattened()].concat()
     };
-    let mut area = [7; MODEL_AREA];
+    let mut area = [7; 16];
     for (names, missing) in [(&[][..], 9), (&[[127, 0]], 9), (&[[9, 0]], 127), (&[[9, 0], [126, 0]], 127)] {
         let finding = unit::judge_model(&pattern, &model(names), &mut area);
         assert_eq!(finding, Finding::Refused { number: 27, place: missing });
-        assert_eq!(area, [7; MODEL_AREA]);
+        assert_eq!(area, [7; 16]);
     }
     let finding = unit::judge_model(&pattern, &model(&[[127, 0], [9, 0]]), &mut area);
     assert_eq!(finding, Finding::Met { lowest: 0, number: 1 });
-    assert_eq!(area, [0; MODEL_AREA]);
+    assert_eq!(area, [0; 16]);
 }
 
 /// The refusal's place is the later record, and the area stays as it was.
@@ -59,19 +112,19 @@ fn a_name_of_the_pattern_that_is_not_listed_is_refused() {
 fn edges_that_do_not_rise_are_refused() {
     let pattern = b"PAT\x01\x00\x01\x01\x00\x00\x00";
     let rising = [[0, 0, 0], [0, 0, 1], [0, 1, 0], [1, 0, 0]];
-    let mut area = [7; MODEL_AREA];
+    let mut area = [7; 8];
     for place in 1..rising.len() {
         for earlier in rising[..place].iter().copied() {
             let mut edges = rising;
             edges[place] = earlier;
             let finding = unit::judge_model(pattern, &model(&edges), &mut area);
             assert_eq!(finding, Finding::Refused { number: 28, place: place as u16 });
-            assert_eq!(area, [7; MODEL_AREA]);
+            assert_eq!(area, [7; 8]);
         }
     }
     let finding = unit::judge_model(pattern, &model(&rising), &mut area);
     assert_eq!(finding, Finding::Met { lowest: 0, number: 2 });
-    assert_eq!(area, [0; MODEL_AREA]);
+    assert_eq!(area, [0; 8]);
 }
 
 /// A model file of two nodes that have property 0, with these edges.
@@ -106,20 +159,4 @@ fn an_older_model_at_fault_is_refused() {
     assert_eq!(unit::order(b"", &mut destination), Finding::Refused { number: 10, place: 0 });
     assert_eq!(unit::order(b"", &mut []), Finding::Refused { number: 10, place: 0 });
     assert_eq!(destination, [7; MODEL_LONGEST]);
-}
-
-#[test]
-fn a_short_area_is_refused_and_kept() {
-    let reading_h = Path::new(env!("CARGO_MANIFEST_DIR")).join("../crates/readings/data/reading_h");
-    let pattern = fs::read(reading_h.join("pattern.bin")).expect("pattern.bin");
-    let model = fs::read(reading_h.join("proposal.bin")).expect("proposal.bin");
-    let mut area = [7; MODEL_AREA + 1];
-    assert_eq!(
-        unit::judge_model(&pattern, &model, &mut area[..MODEL_AREA - 1]),
-        Finding::Refused { number: 9, place: 0 }
-    );
-    assert_eq!(area, [7; MODEL_AREA + 1]);
-    assert_eq!(unit::judge_model(&pattern, &model, &mut area), Finding::Met { lowest: 0, number: 1 });
-    assert_eq!(area[..MODEL_AREA], [0; MODEL_AREA]);
-    assert_eq!(area[MODEL_AREA], 7);
 }

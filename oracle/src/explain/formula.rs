@@ -5,6 +5,7 @@
 //! is tiny, or if that is its one use and its text is short.
 
 use super::wording::count;
+use crate::model::area;
 use crate::pattern::{Comparison, Entry, Path, Pattern};
 use std::fmt;
 
@@ -112,6 +113,9 @@ impl fmt::Display for Formula<'_> {
             let note = if reached[number] { "" } else { "   (the root doesn't reach it)" };
             writeln!(f, "  e{number} := {text}{note}")?;
         }
+        let (area, nodes) =
+            (area(self.pattern), count(self.pattern.node_entries(), "node entry", "node entries"));
+        writeln!(f, "Judging a model wants {area} bytes of working area: {nodes}, 8 bytes each.")?;
         writeln!(f, "{NOTATION}")
     }
 }

@@ -13,7 +13,10 @@ pub use order::{in_order, order};
 use crate::finding::{Finding, Refusal};
 use crate::pattern::{self, Pattern};
 
-/// The working area that judging a model wants, in bytes.
+/// What judging a model wants of the working area for a node entry, in bytes.
+const NODE_ENTRY_AREA: usize = 8;
+
+/// The working area that is enough for every pattern, in bytes: that for 255 node entries.
 pub const AREA: usize = 2040;
 
 /// A finite data model as a model file gives it.
@@ -35,7 +38,18 @@ pub struct Node {
     pub values: [u16; 4],
 }
 
-/// Judging a model as document 01 and Jobs 1 and 3 state it, with what it does to the working area.
+/// The working area that judging a model of a pattern wants, in bytes. Job 5: "It shall want 8 bytes for each node
+/// entry of the pattern, and zero just those."
+pub fn area(pattern: &Pattern) -> usize {
+    NODE_ENTRY_AREA * pattern.node_entries()
+}
+
+/// The same of a pattern file; none for one that is refused.
+pub fn area_wanted(pattern: &[u8]) -> usize {
+    pattern::parse(pattern).map_or(0, |pattern| area(&pattern))
+}
+
+/// Judging a model as document 01 and Jobs 1, 3 and 5 state it, with what it does to the working area.
 pub fn judge(pattern: &[u8], model: &[u8], area: &mut [u8]) -> Finding {
     judge_by(parse, pattern, model, area)
 }
@@ -46,10 +60,10 @@ pub fn judge_old(pattern: &[u8], old: &[u8], area: &mut [u8]) -> Finding {
     judge_by(parse_old, pattern, old, area)
 }
 
-fn judge_by(parse: Parse, pattern: &[u8], model: &[u8], area: &mut [u8]) -> Finding {
-    match admit(parse, pattern, model, area.len()) {
+fn judge_by(parse: Parse, pattern: &[u8], model: &[u8], lent: &mut [u8]) -> Finding {
+    match admit(parse, pattern, model, lent.len()) {
         Ok((pattern, model)) => {
-            area[..AREA].fill(0);
+            lent[..area(&pattern)].fill(0);
             finding(&pattern, &model)
         }
         Err(refusal) => Finding::Refused(refusal),
@@ -60,9 +74,9 @@ fn judge_by(parse: Parse, pattern: &[u8], model: &[u8], area: &mut [u8]) -> Find
 type Parse = fn(&[u8]) -> Result<Model, Refusal>;
 
 /// Refusals 1 to 14, 28 and 27 in their order: the pattern, the area, the model, the pattern's names in it.
-fn admit(parse: Parse, pattern: &[u8], model: &[u8], area: usize) -> Result<(Pattern, Model), Refusal> {
+fn admit(parse: Parse, pattern: &[u8], model: &[u8], lent: usize) -> Result<(Pattern, Model), Refusal> {
     let pattern = pattern::parse(pattern)?;
-    if area < AREA {
+    if lent < area(&pattern) {
         return Err(Refusal { number: 9, place: 0 });
     }
     let model = parse(model)?;

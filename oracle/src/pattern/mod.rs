@@ -108,6 +108,11 @@ impl Pattern {
         reached
     }
 
+    /// How many entries are nodes, reached from the root or not.
+    pub fn node_entries(&self) -> usize {
+        self.entries.iter().filter(|entry| !entry.is_path()).count()
+    }
+
     /// The names that it uses.
     pub fn names(&self) -> BTreeSet<u8> {
         self.entries.iter().filter_map(Entry::name).collect()

@@ -70,7 +70,8 @@ pub const ENTRIES_H: [[u8; 4]; 7] =
 
 /// The bench program's line for a model, with an area that is just long enough.
 pub fn model_line(pattern: &[u8], model: &[u8]) -> String {
-    oracle::model::judge(pattern, model, &mut [0xA5; 2040]).to_string()
+    let mut area = vec![0xA5; oracle::model::area_wanted(pattern)];
+    oracle::model::judge(pattern, model, &mut area).to_string()
 }
 
 /// The bench program's line for a tableau, with an area that is just long enough.

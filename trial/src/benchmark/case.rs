@@ -11,7 +11,8 @@ pub const AREA: usize = unit::MODEL_LONGEST + 64;
 /// What an area is filled with before the implementations are compared.
 const FILL: u8 = 0xa5;
 
-/// A pattern, and nothing, a model or a tableau to judge, as files; or a model to put in order, without a pattern.
+/// A pattern, to be read or asked for its area, or with a model or a tableau to judge, as files; or a model to put in
+/// order, without a pattern.
 pub struct Case {
     pub name: String,
     pub pattern: Vec<u8>,
@@ -20,6 +21,8 @@ pub struct Case {
 
 pub enum Proposal {
     None,
+    /// None either: the bytes of working area are asked for that judging a model wants.
+    Area,
     Model(Vec<u8>),
     Tableau(Vec<u8>),
     Old(Vec<u8>),
@@ -28,6 +31,10 @@ pub enum Proposal {
 impl Case {
     pub fn reading(name: &str, pattern: &Pattern) -> Case {
         Case::new(name, pattern, Proposal::None)
+    }
+
+    pub fn area(name: &str, pattern: &Pattern) -> Case {
+        Case::new(name, pattern, Proposal::Area)
     }
 
     pub fn model(name: &str, pattern: &Pattern, model: &Model) -> Case {

@@ -5,8 +5,8 @@ use std::fmt::Display;
 use std::hint::black_box;
 use std::time::{Duration, Instant};
 
-/// An implementation: its judgement; its finding, as the bench program prints it; and the time that it takes
-/// for so many judgements one after the other.
+/// An implementation: its judgement; its finding, as the bench program prints it, or its other answer; and the time
+/// that it takes for so many judgements one after the other.
 pub struct Judge {
     pub name: &'static str,
     pub run: fn(&Case, &mut [u8]),
@@ -27,11 +27,12 @@ trait Operations {
     fn judge_model(pattern: &[u8], model: &[u8], area: &mut [u8]) -> Self::Finding;
     fn judge_tableau(pattern: &[u8], tableau: &[u8], area: &mut [u8]) -> Self::Finding;
     fn order(old: &[u8], destination: &mut [u8]) -> Self::Finding;
+    fn model_area(pattern: &[u8]) -> usize;
 }
 
 /// Implements the operations by functions of that form.
 macro_rules! operations {
-    ($name:ident, $finding:ty, $read:path, $judge_model:path, $judge_tableau:path, $order:path) => {
+    ($name:ident, $finding:ty, $read:path, $judge_model:path, $judge_tableau:path, $order:path, $area:path) => {
         struct $name;
 
         impl Operations for $name {
@@ -52,18 +53,31 @@ macro_rules! operations {
             fn order(old: &[u8], destination: &mut [u8]) -> $finding {
                 $order(old, destination)
             }
+
+            fn model_area(pattern: &[u8]) -> usize {
+                $area(pattern)
+            }
         }
     };
 }
 
-operations!(Proved, unit::Finding, unit::read, unit::judge_model, unit::judge_tableau, unit::order);
+operations!(
+    Proved,
+    unit::Finding,
+    unit::read,
+    unit::judge_model,
+    unit::judge_tableau,
+    unit::order,
+    unit::model_area
+);
 operations!(
     Oracle,
     oracle::finding::Finding,
     oracle::pattern::read,
     oracle::model::judge,
     oracle::tableau::judge,
-    oracle::model::order
+    oracle::model::order,
+    oracle::model::area_wanted
 );
 operations!(
     Fast,
@@ -71,28 +85,39 @@ operations!(
     crate::fast::read,
     crate::fast::judge_model,
     crate::fast::judge_tableau,
-    crate::fast::order
+    crate::fast::order,
+    crate::fast::model_area
 );
 
 const fn judge<O: Operations>(name: &'static str) -> Judge {
     Judge { name, run: run::<O>, finding: finding::<O>, time: time::<O> }
 }
 
-fn judged<O: Operations>(case: &Case, area: &mut [u8]) -> O::Finding {
-    match &case.proposal {
+/// What an operation answers: a finding, or a number of bytes.
+enum Answer<F> {
+    Finding(F),
+    Bytes(usize),
+}
+
+fn answer<O: Operations>(case: &Case, area: &mut [u8]) -> Answer<O::Finding> {
+    Answer::Finding(match &case.proposal {
         Proposal::None => O::read(&case.pattern),
+        Proposal::Area => return Answer::Bytes(O::model_area(&case.pattern)),
         Proposal::Model(model) => O::judge_model(&case.pattern, model, area),
         Proposal::Tableau(tableau) => O::judge_tableau(&case.pattern, tableau, area),
         Proposal::Old(old) => O::order(old, area),
-    }
+    })
 }
 
 fn run<O: Operations>(case: &Case, area: &mut [u8]) {
-    black_box(judged::<O>(case, area));
+    black_box(answer::<O>(case, area));
 }
 
 fn finding<O: Operations>(case: &Case, area: &mut [u8]) -> String {
-    judged::<O>(case, area).to_string()
+    match answer::<O>(case, area) {
+        Answer::Finding(finding) => finding.to_string(),
+        Answer::Bytes(bytes) => format!("area {bytes}"),
+    }
 }
 
 fn time<O: Operations>(case: &Case, area: &mut [u8], times: u64) -> Duration {

@@ -76,7 +76,7 @@ mod tests {
     /// What `include/riser.h` states for the operation.
     fn stated(proposal: &Proposal) -> usize {
         match proposal {
-            Proposal::None => 2560,
+            Proposal::None | Proposal::Area => 2560,
             Proposal::Model(_) => 61_440,
             Proposal::Tableau(_) => 16_384,
             Proposal::Old(_) => 4608,

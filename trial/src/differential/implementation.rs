@@ -34,6 +34,7 @@ pub fn run_oracle(operation: Operation, lent: Lent) -> Finding {
         Operation::Tableau => oracle::tableau::judge(lent.pattern, lent.proposal, lent.area),
         Operation::Ordering => oracle::model::order(lent.proposal, lent.area),
         Operation::Ordered => oracle::model::judge_old(lent.pattern, lent.proposal, lent.area),
+        Operation::Area => Finding::Area { bytes: oracle::model::area_wanted(lent.pattern) },
     }
 }
 
@@ -44,6 +45,7 @@ fn run_fast(operation: Operation, lent: Lent) -> Finding {
         Operation::Tableau => fast::judge_tableau(lent.pattern, lent.proposal, lent.area),
         Operation::Ordering => fast::order(lent.proposal, lent.area),
         Operation::Ordered => judge_ordered(fast::order, fast::judge_model, lent),
+        Operation::Area => Finding::Area { bytes: fast::model_area(lent.pattern) },
     }
 }
 
@@ -57,6 +59,7 @@ fn run_unit(operation: Operation, lent: Lent) -> Finding {
         Operation::Tableau => found(unit::judge_tableau(lent.pattern, lent.proposal, lent.area)),
         Operation::Ordering => order(lent.proposal, lent.area),
         Operation::Ordered => judge_ordered(order, judge, lent),
+        Operation::Area => Finding::Area { bytes: unit::model_area(lent.pattern) },
     }
 }
 

@@ -23,7 +23,7 @@ pub struct Judged<'a> {
     pub(super) led: Option<Led>,
 }
 
-pub const LIMITS: [Limit; 53] = [
+pub const LIMITS: [Limit; 51] = [
     ("255 entries read", |it| it.finding == Finding::Read { entries: 255 }),
     ("no entry refused 3", |it| it.refused(3) && it.input.pattern[5] == 0),
     ("pattern over 65,535 bytes refused 3", |it| it.refused(3) && it.input.pattern.len() > 65_535),
@@ -59,8 +59,6 @@ pub const LIMITS: [Limit; 53] = [
         it.edge_refused().is_some_and(|edge| edge[0] == it.nodes())
     }),
     ("edge to a node one over refused 14", |it| it.edge_refused().is_some_and(|edge| edge[2] == it.nodes())),
-    ("model in 2,040 bytes of area", |it| it.found() && it.input.area.length == 2040),
-    ("model in 2,039 bytes refused 9", |it| it.in_area(Operation::Model, 2039)),
     ("start name 127 closed", |it| it.closed() && it.input.proposal[5] == 127),
     ("start name 128 refused 18", |it| it.refused(18) && it.input.proposal[5] == 128),
     ("4,096 steps closed", |it| it.closed() && it.count(6) == 4096),
@@ -80,7 +78,9 @@ pub const LIMITS: [Limit; 53] = [
     }),
     ("rule 18 with channel 4 refused 21", |it| it.one_too_high(|step| step[0] == 18 && step[5] == 4)),
     ("tableau in 8,192 bytes of area", |it| it.closed() && it.input.area.length == 8192),
-    ("tableau in 8,191 bytes refused 9", |it| it.in_area(Operation::Tableau, 8191)),
+    ("tableau in 8,191 bytes refused 9", |it| {
+        it.refused(9) && it.input.operation == Operation::Tableau && it.input.area.length == 8191
+    }),
 ];
 
 /// Whether the step brings this name.
@@ -207,10 +207,5 @@ impl<'a> Judged<'a> {
             most = most.max(waiting);
         }
         most
-    }
-
-    /// Whether the operation was refused 9 with an area of this length.
-    fn in_area(&self, operation: Operation, length: usize) -> bool {
-        self.refused(9) && self.input.operation == operation && self.input.area.length == length
     }
 }

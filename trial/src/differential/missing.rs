@@ -1,13 +1,13 @@
-//! What a run must see: every finding, refusal, rule, limit and kind of input, and each name refused in every
-//! way.
+//! What a run must see: every finding, refusal, rule, limit and kind of input, each name refused in every way, and each
+//! length of area wanted.
 
 use super::names::EACH_NAME;
 use super::situations::{SITUATIONS, Situations};
 use super::tally::Tally;
 use crate::generate::input::{Kind, Operation};
+use oracle::model;
 use oracle::pattern::MAX_NAME;
-use std::iter::Chain;
-use std::ops::RangeInclusive;
+use oracle::planner::builder::MAX_ENTRIES;
 
 impl Tally {
     /// What a run must have seen and this one hasn't.
@@ -37,6 +37,9 @@ impl Tally {
             let each = 0..=MAX_NAME.into();
             seen.extend(each.map(|name| (names.contains(&name).into(), format!("name {name} {what}"))));
         }
+        for length in (0..=model::AREA).step_by(model::AREA / MAX_ENTRIES) {
+            seen.push((self.areas.contains(&length).into(), format!("an area of {length} bytes wanted")));
+        }
         for operation in Operation::ALL {
             for (length, times) in self.short[operation as usize].iter().enumerate() {
                 seen.push((*times, format!("a file of {length} bytes for {}", words(operation))));
@@ -63,14 +66,16 @@ impl Tally {
 }
 
 /// The refusals that documents 01 and 02 list for the operation.
-pub fn refusals(operation: Operation) -> Chain<RangeInclusive<usize>, RangeInclusive<usize>> {
-    match operation {
-        Operation::Reading => (1..=7).chain(8..=8),
-        Operation::Model => (1..=14).chain(27..=28),
-        Operation::Tableau => (1..=9).chain(15..=26),
-        Operation::Ordering => (10..=14).chain(29..=29),
-        Operation::Ordered => (1..=14).chain(27..=27),
-    }
+pub fn refusals(operation: Operation) -> impl Iterator<Item = usize> {
+    let firsts_and_lasts: &[[usize; 2]] = match operation {
+        Operation::Reading => &[[1, 8]],
+        Operation::Model => &[[1, 14], [27, 28]],
+        Operation::Tableau => &[[1, 9], [15, 26]],
+        Operation::Ordering => &[[10, 14], [29, 29]],
+        Operation::Ordered => &[[1, 14], [27, 27]],
+        Operation::Area => &[],
+    };
+    firsts_and_lasts.iter().flat_map(|&[first, last]| first..=last)
 }
 
 pub fn words(operation: Operation) -> &'static str {
@@ -80,5 +85,6 @@ pub fn words(operation: Operation) -> &'static str {
         Operation::Tableau => "judging a tableau",
         Operation::Ordering => "putting a model in order",
         Operation::Ordered => "judging a model put in order",
+        Operation::Area => "asking for the area of a pattern",
     }
 }

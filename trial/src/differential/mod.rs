@@ -3,11 +3,12 @@
 //!
 //! `run` takes the inputs in turn; `compare` runs each by every `implementation` in `guarded` memory, and
 //! `fault` names it if it is left; `tally` counts what occurred (`limits` says which limits an input
-//! shows, `names` what it shows of the pattern's names, `edges` of the order of a model's edges, `fresh` of
-//! the names that a tableau asks for, `slots` of entries that share one, `rows` of paths that lose theirs, `ends` of where
-//! paths lead, `older` of older models; `situations` has them all), `missing` what never did, and `table` prints it;
-//! `report` shows one input in full.
+//! shows, `areas` what it shows of the working area that a model wants, `names` of the pattern's names, `edges` of the
+//! order of a model's edges, `fresh` of the names that a tableau asks for, `slots` of entries that share one, `rows` of
+//! paths that lose theirs, `ends` of where paths lead, `older` of older models; `situations` has them all), `missing`
+//! what never did, and `table` prints it; `report` shows one input in full.
 
+mod areas;
 pub mod compare;
 mod edges;
 mod ends;

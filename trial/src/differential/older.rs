@@ -73,7 +73,7 @@ pub const ORDERED: [Limit; 39] = [
     }),
 ];
 
-pub const JUDGED_OLD: [Limit; 10] = [
+pub const JUDGED_OLD: [Limit; 14] = [
     ("met, edges out of order", |it| it.met() && !it.edges().is_sorted()),
     ("unmet, edges out of order", |it| it.finding == Finding::Unmet && !it.edges().is_sorted()),
     ("met, edges that don't fall, repeats", |it| it.met() && !it.rise() && it.edges().is_sorted()),
@@ -82,9 +82,13 @@ pub const JUDGED_OLD: [Limit; 10] = [
     ("name refused 27, edges out of order", |it| it.refused(27) && !it.rise()),
     ("edge refused 14 behind one that doesn't rise", |it| it.refused_behind_a_fall()),
     ("edge refused 14 where a name is missing too", |it| it.refused(14) && it.missing() != 0),
-    ("in 2,040 bytes of area, edges out of order", |it| {
-        it.found() && !it.rise() && it.input.area.length == 2040
+    ("found in as many bytes as wanted, edges out of order", |it| it.found_over(0) && !it.rise()),
+    ("found in a byte more than wanted, edges out of order", |it| it.found_over(1) && !it.rise()),
+    ("found in 2,040 bytes, fewer wanted, edges out of order", |it| {
+        it.found_in_more_than_enough() && !it.rise()
     }),
+    ("refused 9 in a byte less than wanted", |it| it.short_by(1)),
+    ("refused 9 in a set less than wanted", |it| it.short_by(8)),
     ("pattern with a closed tableau unmet, edges out of order", |it| {
         it.finding == Finding::Unmet && it.input.never == Some(Never::Met) && !it.rise()
     }),

@@ -22,7 +22,7 @@ pub fn describe(input: &Input, seed: u64, number: u64) -> String {
     if input.operation != Operation::Ordering {
         line("pattern", in_hex(&input.pattern));
     }
-    if input.operation != Operation::Reading {
+    if !Operation::OF_PATTERNS_ALONE.contains(&input.operation) {
         let Area { length, fill } = input.area;
         line(proposal, in_hex(&input.proposal));
         line(area, format!("{length} bytes, byte k is 1 + ((k + {fill}) * 101 mod 251)"));

@@ -1,5 +1,6 @@
 //! The situations that a run must see, table by table.
 
+use super::areas::{AREAS, WANTED};
 use super::edges::EDGES;
 use super::ends::ENDS;
 use super::fresh::FRESH;
@@ -23,7 +24,7 @@ const READING: &[Operation] = &[Operation::Reading];
 const MODEL: &[Operation] = &[Operation::Model];
 const TABLEAU: &[Operation] = &[Operation::Tableau];
 
-pub const SITUATIONS: [Situations; 9] = [
+pub const SITUATIONS: [Situations; 11] = [
     Situations {
         heading: "limits",
         sort: "limit",
@@ -35,6 +36,18 @@ pub const SITUATIONS: [Situations; 9] = [
         sort: "names",
         of: MODEL,
         shown: &NAMES,
+    },
+    Situations {
+        heading: "working areas for judging a model, and the bytes that it wants",
+        sort: "areas",
+        of: MODEL,
+        shown: &AREAS,
+    },
+    Situations {
+        heading: "bytes of working area that a pattern wants",
+        sort: "areas wanted",
+        of: &[Operation::Area],
+        shown: &WANTED,
     },
     Situations {
         heading: "edge records and the records before them",

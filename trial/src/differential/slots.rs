@@ -19,7 +19,7 @@ pub const SHARED: [Limit; 4] = [
 ];
 
 impl Judged<'_> {
-    fn entries(&self) -> &[[u8; 4]] {
+    pub(super) fn entries(&self) -> &[[u8; 4]] {
         self.input.pattern.get(6..).unwrap_or_default().as_chunks().0
     }
 

@@ -19,7 +19,8 @@ impl fmt::Display for Tally {
         writeln!(f, "{:>12}    unmet", self.unmet)?;
         writeln!(f, "{:>12}    closed, {} distinct tableaux", self.closed, self.distinct.len())?;
         writeln!(f, "{:>12}    written", self.written)?;
-        for operation in Operation::ALL {
+        writeln!(f, "{:>12}    area, {} different lengths", self.area, self.areas.len())?;
+        for operation in Operation::ALL.into_iter().filter(|&operation| operation != Operation::Area) {
             self.write_refusals(f, operation)?;
         }
         writeln!(f, "closed tableaux that use a rule, and steps with it refused 20, 21, 22")?;

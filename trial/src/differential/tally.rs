@@ -41,6 +41,9 @@ pub struct Tally {
     pub unmet: u64,
     pub closed: u64,
     pub written: u64,
+    pub area: u64,
+    /// The bytes of working area that were wanted.
+    pub areas: BTreeSet<usize>,
     /// Refusals by operation and number.
     pub refused: [[Refused; REFUSALS + 1]; Operation::ALL.len()],
     pub rules: [RuleUse; RULES + 1],
@@ -48,7 +51,8 @@ pub struct Tally {
     pub shown: BTreeMap<(&'static str, &'static str), u64>,
     /// The names that showed what each must show.
     pub names: [BTreeSet<usize>; EACH_NAME.len()],
-    /// Files of 0 to 10 bytes, by operation: patterns for reading, else models or tableaux.
+    /// Files of 0 to 10 bytes, by operation: patterns for reading and for asking how long an area is wanted, else
+    /// models or tableaux.
     pub short: [[u64; SHORT]; Operation::ALL.len()],
     /// Models judged unmet of a pattern with a closed tableau.
     pub unmet_as_closed: u64,
@@ -77,7 +81,7 @@ impl Tally {
             self.count_short(Operation::Reading, &input.pattern);
         }
         if input.operation != Operation::Reading {
-            self.count_short(input.operation, &input.proposal);
+            self.count_short(input.operation, input.file());
         }
         match finding {
             Finding::Read { .. } => self.read += 1,
@@ -85,6 +89,10 @@ impl Tally {
             Finding::Unmet => self.unmet += 1,
             Finding::Closed { .. } => self.count_closed(input),
             Finding::Written { .. } => self.written += 1,
+            Finding::Area { bytes } => {
+                self.area += 1;
+                self.areas.insert(bytes);
+            }
             Finding::Refused(refusal) => self.count_refused(input, refusal),
         }
         match (input.never, finding) {
@@ -136,6 +144,7 @@ impl Tally {
             (&mut self.unmet, other.unmet),
             (&mut self.closed, other.closed),
             (&mut self.written, other.written),
+            (&mut self.area, other.area),
             (&mut self.unmet_as_closed, other.unmet_as_closed),
             (&mut self.open_as_met, other.open_as_met),
         ]);
@@ -158,6 +167,7 @@ impl Tally {
         for (mine, theirs) in self.names.iter_mut().zip(&other.names) {
             mine.extend(theirs);
         }
+        self.areas.extend(&other.areas);
         self.distinct.extend(&other.distinct);
     }
 

@@ -32,6 +32,11 @@ pub fn read(pattern: &[u8]) -> Finding {
     }
 }
 
+/// The bytes of working area that judging a model of a pattern wants; 0 for one that is refused.
+pub fn model_area(pattern: &[u8]) -> usize {
+    pattern::parse(pattern).map_or(0, |entries| size_of::<evaluate::Set>() * pattern::node_count(entries))
+}
+
 /// Judges a model of a pattern.
 pub fn judge_model(pattern: &[u8], model: &[u8], area: &mut [u8]) -> Finding {
     match model::judge(pattern, model, area) {

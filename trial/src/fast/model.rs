@@ -1,6 +1,6 @@
 //! Judging a model: refusals 9 to 14, 28 and 27, then where the root holds.
 
-use super::evaluate::{Holds, root_nodes};
+use super::evaluate::root_nodes;
 use super::{body, pattern, refused};
 use oracle::finding::Refusal;
 
@@ -24,14 +24,14 @@ pub struct Names {
 /// The set of nodes where the root holds, or refusals 1 to 14, 28 and 27.
 pub fn judge(bytes: &[u8], model: &[u8], area: &mut [u8]) -> Result<u64, Refusal> {
     let entries = pattern::parse(bytes)?;
-    let (holds, _) = area.as_chunks_mut::<8>();
-    let holds: &mut Holds = holds.first_chunk_mut().ok_or(refused(9))?;
+    let (sets, _) = area.as_chunks_mut();
+    let sets = sets.get_mut(..pattern::node_count(entries)).ok_or(refused(9))?;
     let file = File::parse(model)?;
     let mut model = Model { records: file.records, names: file.names()?, predecessors: [[0; 64]; 8] };
     model.add_edges(file.edges)?;
     model.names.check(pattern::used_names(entries))?;
-    let nodes = root_nodes(entries, &model, holds);
-    holds.fill([0; 8]);
+    let nodes = root_nodes(entries, &model, sets);
+    sets.fill([0; 8]);
     Ok(nodes)
 }
 

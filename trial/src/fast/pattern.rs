@@ -135,6 +135,11 @@ pub fn references(kind: u8) -> [bool; 3] {
     [x != 0, y != 0, z != 0]
 }
 
+/// The number of node entries, reached or not.
+pub fn node_count(entries: &[Entry]) -> usize {
+    entries.iter().filter(|entry| entry[0] < STEP).count()
+}
+
 /// The names used in the pattern, reached or not, as a set of bits.
 pub fn used_names(entries: &[Entry]) -> u128 {
     let has_name = |kind| kind == NAME || kind == JUMP;

@@ -1,9 +1,9 @@
 //! The working areas and destinations that are lent: of every relevant length, and filled so that any change is
 //! seen.
 
-use super::input::Operation;
-use oracle::model;
+use oracle::pattern::{self, Entry, Pattern};
 use oracle::random::Random;
+use oracle::{model, tableau};
 
 /// The working area or the destination as it is lent.
 #[derive(Clone, Copy, Debug, PartialEq, Eq)]
@@ -15,6 +15,9 @@ pub struct Area {
 
 /// The longest area that is lent.
 pub const LONGEST_AREA: usize = 14_000;
+
+/// Lengths at which something is wanted by one operation or another, or by a single entry.
+const BORDERS: [usize; 11] = [0, 1, 7, 8, 9, 2039, 2040, 2041, 8191, 8192, 8193];
 
 /// What areas are filled with: no byte is zero and neighbours differ, so that a byte that was zeroed,
 /// overwritten or moved is seen.
@@ -33,18 +36,24 @@ const fn fill() -> [u8; LONGEST_AREA + 256] {
 impl Area {
     pub const NONE: Area = Area { length: 0, fill: 0 };
 
-    /// An area that is mostly long enough, often just so or by a byte; else of any relevant length.
-    pub fn random(random: &mut Random, operation: Operation) -> Area {
-        let need = operation.need();
-        if need == 0 {
-            return Area::NONE;
-        }
+    /// An area for judging a model of a pattern file; of any length if that is refused.
+    pub fn of_model(random: &mut Random, file: &[u8]) -> Area {
+        let length = match pattern::parse(file) {
+            Ok(pattern) => length_for(random, &pattern),
+            Err(_) if random.once_in(2) => random.pick(&BORDERS),
+            Err(_) => random.between(0, LONGEST_AREA),
+        };
+        Area { length, fill: random.byte() }
+    }
+
+    /// An area for judging a tableau: mostly long enough, often just so or by a byte; else of any relevant length.
+    pub fn of_tableau(random: &mut Random) -> Area {
         let length = match random.below(16) {
-            0 => random.pick(&[0, 1, need - 1, 2039, 2040, 2041, 8191, 8192, 8193]),
+            0 => random.pick(&BORDERS),
             1 => random.between(0, LONGEST_AREA),
-            2..5 => random.between(need, LONGEST_AREA),
-            5..9 => need + 1,
-            _ => need,
+            2..5 => random.between(tableau::AREA, LONGEST_AREA),
+            5..9 => tableau::AREA + 1,
+            _ => tableau::AREA,
         };
         Area { length, fill: random.byte() }
     }
@@ -71,4 +80,34 @@ impl Area {
     pub fn contents(self) -> &'static [u8] {
         &FILL[self.fill as usize..][..self.length]
     }
+}
+
+/// The length of an area for judging a model of the pattern: mostly what is wanted, often a byte more or up to a set
+/// more or less; now and then what would be wanted if paths counted too, if only what the root reaches did, or for any
+/// pattern; else any.
+fn length_for(random: &mut Random, pattern: &Pattern) -> usize {
+    let wanted = model::area(pattern);
+    let set = wanted / pattern.node_entries();
+    let near = random.between(1, set + 1);
+    match random.below(48) {
+        0 => random.pick(&BORDERS),
+        1 => random.between(0, LONGEST_AREA),
+        2..4 => wanted - 1,
+        4 => wanted - set,
+        5 => wanted.saturating_sub(near),
+        6 => set * pattern.entries.len(),
+        7 => set * reached(pattern).count(),
+        8 => set * reached(pattern).filter(|entry| !entry.is_path()).count(),
+        9 => model::AREA,
+        10..13 => wanted + near,
+        13..15 => random.between(wanted, model::AREA),
+        15..20 => random.between(wanted, LONGEST_AREA),
+        20..30 => wanted + 1,
+        _ => wanted,
+    }
+}
+
+/// The entries that the root reaches.
+fn reached(pattern: &Pattern) -> impl Iterator<Item = &Entry> {
+    pattern.entries.iter().zip(pattern.reached()).filter(|(_, reached)| *reached).map(|(entry, _)| entry)
 }

@@ -2,7 +2,8 @@
 
 use super::area::Area;
 
-/// The operations of documents 01 and 02, and a judgement of what one of them writes.
+/// The operations of documents 01 and 02, a judgement of what one of them writes, and the question how long an area
+/// another wants.
 #[derive(Clone, Copy, Debug, PartialEq, Eq, Hash)]
 pub enum Operation {
     Reading,
@@ -12,24 +13,26 @@ pub enum Operation {
     Ordering,
     /// Judging an older model when it has been put in order.
     Ordered,
+    /// Asking how many bytes of working area judging a model of a pattern wants.
+    Area,
 }
 
 impl Operation {
-    pub const ALL: [Operation; 5] =
-        [Operation::Reading, Operation::Model, Operation::Tableau, Operation::Ordering, Operation::Ordered];
+    pub const ALL: [Operation; 6] = [
+        Operation::Reading,
+        Operation::Model,
+        Operation::Tableau,
+        Operation::Ordering,
+        Operation::Ordered,
+        Operation::Area,
+    ];
 
     /// Those that have a pattern.
-    pub const OF_PATTERNS: [Operation; 4] =
-        [Operation::Reading, Operation::Model, Operation::Tableau, Operation::Ordered];
+    pub const OF_PATTERNS: [Operation; 5] =
+        [Operation::Reading, Operation::Model, Operation::Tableau, Operation::Ordered, Operation::Area];
 
-    /// The bytes of working area without which it is refused 9.
-    pub fn need(self) -> usize {
-        match self {
-            Operation::Reading | Operation::Ordering => 0,
-            Operation::Model | Operation::Ordered => 2040,
-            Operation::Tableau => 8192,
-        }
-    }
+    /// Those that have a pattern and nothing else.
+    pub const OF_PATTERNS_ALONE: [Operation; 2] = [Operation::Reading, Operation::Area];
 }
 
 /// A finding that demand 3 rules out for an input: no pattern has both a closed tableau and a model
@@ -85,6 +88,8 @@ kinds! {
     OldModelLimit "an older model at a limit or one over, to be put in order"
     ModelInOrder "a model in order to be put in order"
     JudgedOldModel "an older model to be judged when put in order"
+    NodesAndPaths "a model for a pattern of so many nodes and paths"
+    AreaOfPattern "a pattern of so many nodes and paths, whose area is asked for"
 }
 
 /// One input. The same value serves for one input after another, so that its buffers are kept where they can.
@@ -94,7 +99,7 @@ pub struct Input {
     pub operation: Operation,
     /// The pattern file; empty where a model is put in order.
     pub pattern: Vec<u8>,
-    /// The model or tableau file; empty for a reading.
+    /// The model or tableau file; empty where there is a pattern alone.
     pub proposal: Vec<u8>,
     /// The working area, or the destination of a model that is put in order.
     pub area: Area,
@@ -102,6 +107,11 @@ pub struct Input {
 }
 
 impl Input {
+    /// The file that the operation is about.
+    pub fn file(&self) -> &[u8] {
+        if Operation::OF_PATTERNS_ALONE.contains(&self.operation) { &self.pattern } else { &self.proposal }
+    }
+
     /// An input to be filled by a generator.
     pub fn blank() -> Input {
         Input {

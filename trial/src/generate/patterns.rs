@@ -40,6 +40,16 @@ pub fn of_size(random: &mut Random, entries: usize) -> Pattern {
     Draft::new(Vocabulary::random(random)).grown(random, entries)
 }
 
+/// A pattern of so many nodes, and of no path, as many as make the most entries, or any number between.
+pub fn of_nodes(random: &mut Random, nodes: usize, most: usize) -> Pattern {
+    let paths = match random.below(4) {
+        0 => 0,
+        1 => most - nodes,
+        _ => random.between(0, most - nodes),
+    };
+    Draft::new(Vocabulary::random(random)).of_sorts(random, nodes, paths)
+}
+
 /// A pattern that uses every name, some of them in jumps.
 fn of_all_names(random: &mut Random) -> Pattern {
     let mut draft = Draft::new(Vocabulary::ALL);
@@ -72,6 +82,20 @@ impl Draft {
         while self.entries.len() < entries {
             let last = self.entries.len() + 1 == entries;
             if !last && random.once_in(3) {
+                self.add_path(self.path_entry(random));
+            } else {
+                self.add_node(self.node_entry(random));
+            }
+        }
+        Pattern { entries: self.entries }
+    }
+
+    /// The pattern, when different entries have been added up to so many nodes and paths, in any order, the last a
+    /// node.
+    fn of_sorts(mut self, random: &mut Random, nodes: usize, paths: usize) -> Pattern {
+        while self.nodes.len() < nodes || self.paths.len() < paths {
+            let before_root = nodes - 1 + paths - self.entries.len();
+            if random.below(before_root.max(1)) < paths - self.paths.len() {
                 self.add_path(self.path_entry(random));
             } else {
                 self.add_node(self.node_entry(random));

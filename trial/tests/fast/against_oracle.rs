@@ -1,5 +1,6 @@
 //! The fast implementation against the independent one, on inputs of the benchmark, many of them mutated.
 
+use oracle::model::{self, area_wanted};
 use oracle::random::Random;
 use trial::benchmark::case::{Case, Proposal};
 use trial::benchmark::inputs::models::{self, Size, random_model};
@@ -36,7 +37,11 @@ fn mixed_case(seed: u64) -> Case {
 #[test]
 fn mixed_models() {
     for seed in 0..1500 {
-        agree(&mixed_case(seed), 2040);
+        let case = mixed_case(seed);
+        let wanted = area_wanted(&case.pattern);
+        for length in [wanted - 8, wanted - 1, wanted, wanted + 1, 2040] {
+            agree(&case, length);
+        }
     }
 }
 
@@ -44,8 +49,9 @@ fn mixed_models() {
 #[test]
 fn models_that_are_timed_are_judged() {
     for case in models::cases() {
-        agree(&case, 2040);
-        let finding = (FAST.finding)(&case, &mut [0; 2040]);
+        let wanted = area_wanted(&case.pattern);
+        agree(&case, wanted);
+        let finding = (FAST.finding)(&case, &mut vec![0; wanted]);
         assert!(!finding.starts_with("refused"), "{}: {finding}", case.name);
     }
 }
@@ -64,7 +70,7 @@ fn models_of_every_shape_of_pattern() {
     for seed in 0..40 {
         let size = Size { nodes: 20, names: 8, edges: 60, axes: 3, values: 1 + seed as usize % 6 };
         for pattern in &shapes {
-            agree(&Case::model("shape", pattern, &random_model(size, seed)), 2041);
+            agree(&Case::model("shape", pattern, &random_model(size, seed)), model::area(pattern) + 1);
         }
     }
 }
@@ -104,11 +110,13 @@ fn agree_mutated(case: &Case, times: u64) {
         };
         let proposal = match &case.proposal {
             Proposal::None => Proposal::None,
+            Proposal::Area => Proposal::Area,
             Proposal::Model(model) => Proposal::Model(changed(model)),
             Proposal::Tableau(tableau) => Proposal::Tableau(changed(tableau)),
             Proposal::Old(old) => Proposal::Old(changed(old)),
         };
-        let length = random.pick(&[8192, 8192, 8200, 8191, 2040, 2039, 100, 0]);
+        let wanted = area_wanted(&pattern);
+        let length = random.pick(&[8192, 8192, 8191, 2040, wanted, wanted + 1, wanted.saturating_sub(1), 0]);
         agree(&Case { name: case.name.clone(), pattern, proposal }, length);
     }
 }

@@ -127,7 +127,7 @@ pub fn unordered(refuses: fn(&Edges) -> Option<Refusal>, operation: Operation, l
     if let Err(refusal) = model::check_names(&pattern, &model) {
         return Finding::Refused(refusal);
     }
-    lent.area[..model::AREA].fill(0);
+    lent.area[..model::area(&pattern)].fill(0);
     model::finding(&pattern, &model)
 }
 

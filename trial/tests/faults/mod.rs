@@ -1,5 +1,6 @@
 //! Judges, and an orderer, with a fault planted in them.
 
+pub mod area;
 pub mod edges;
 pub mod fresh;
 pub mod model;

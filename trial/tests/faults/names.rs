@@ -71,7 +71,7 @@ pub fn mistaken(place: fn(&Pattern, &Model) -> Option<u16>, operation: Operation
     if let Some(place) = place(&pattern, &model) {
         return Finding::Refused(Refusal { number: 27, place });
     }
-    lent.area[..model::AREA].fill(0);
+    lent.area[..model::area(&pattern)].fill(0);
     model::finding(&pattern, &model)
 }
 

@@ -10,13 +10,15 @@ mod typical;
 use super::case::Case;
 use crate::generate::slots;
 
-/// The cases of reading a pattern.
+/// The cases of reading a pattern, and of asking for its area.
 pub fn readings() -> Vec<Case> {
     vec![
         Case::reading("typical, 20 entries", &patterns::typical()),
         Case::reading("large, 255 entries", &patterns::mixed(255, patterns::SEED)),
         Case::reading("255 entries of one kind", &patterns::long_after(255)),
         Case::reading("255 entries in 32 slots", &slots::of_few_slots(32, 255)),
+        Case::area("area, typical", &patterns::typical()),
+        Case::area("area, 255 entries", &patterns::mixed(255, patterns::SEED)),
     ]
 }
 

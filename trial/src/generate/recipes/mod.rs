@@ -11,10 +11,11 @@ use crate::generate::corpus::{Corpus, Planned};
 use crate::generate::input::{Input, Kind, Operation};
 use crate::generate::mutate::{Sort, mutate};
 use crate::generate::{limits, patterns};
+use oracle::planner::builder::MAX_ENTRIES;
 use oracle::random::Random;
 
 /// The share of each kind among the inputs.
-const SHARES: [(usize, Kind); 25] = [
+const SHARES: [(usize, Kind); 27] = [
     (4, Kind::ValidPattern),
     (7, Kind::MutatedPattern),
     (5, Kind::PatternLimit),
@@ -40,6 +41,8 @@ const SHARES: [(usize, Kind); 25] = [
     (3, Kind::OldModelLimit),
     (1, Kind::ModelInOrder),
     (5, Kind::JudgedOldModel),
+    (5, Kind::NodesAndPaths),
+    (4, Kind::AreaOfPattern),
 ];
 
 /// Makes an input of a random kind.
@@ -74,13 +77,21 @@ pub fn make(random: &mut Random, corpus: &Corpus, input: &mut Input) {
             older::to_be_ordered(random, corpus, input);
         }
         Kind::JudgedOldModel => older::judged(random, corpus, input),
+        Kind::NodesAndPaths => model::of_nodes_and_paths(random, input),
+        Kind::AreaOfPattern => {
+            input.operation = Operation::Area;
+            let nodes = if random.once_in(8) { 1 } else { random.between(1, MAX_ENTRIES) };
+            input.pattern = patterns::of_nodes(random, nodes, MAX_ENTRIES).to_bytes();
+        }
     }
     input.area = match input.operation {
+        Operation::Reading | Operation::Area => Area::NONE,
+        Operation::Model | Operation::Ordered => Area::of_model(random, &input.pattern),
+        Operation::Tableau => Area::of_tableau(random),
         Operation::Ordering => {
             input.pattern.clear();
             Area::destination(random, &input.proposal)
         }
-        operation => Area::random(random, operation),
     };
 }
 
@@ -113,7 +124,7 @@ fn mutated_pattern(random: &mut Random, corpus: &Corpus, input: &mut Input) {
     mutate(random, Sort::Pattern, &mut input.pattern);
 }
 
-/// Reading, or a judgement of a valid proposal, which a refusal of the pattern hides.
+/// Reading, asking for the area, or a judgement of a valid proposal, which a refusal of the pattern hides.
 fn any_operation(random: &mut Random, corpus: &Corpus, input: &mut Input) {
     input.operation = random.pick(&Operation::OF_PATTERNS);
     match input.operation {
@@ -123,7 +134,7 @@ fn any_operation(random: &mut Random, corpus: &Corpus, input: &mut Input) {
             model::for_pattern(random, corpus, input);
             age(random, &mut input.proposal);
         }
-        Operation::Reading | Operation::Ordering => {}
+        Operation::Reading | Operation::Ordering | Operation::Area => {}
     }
 }
 
@@ -151,7 +162,7 @@ fn unrelated(random: &mut Random, corpus: &Corpus, input: &mut Input) {
     }
     input.operation = random.pick(&Operation::ALL);
     match input.operation {
-        Operation::Reading => {}
+        Operation::Reading | Operation::Area => {}
         Operation::Model | Operation::Ordering | Operation::Ordered => {
             noise(random, b"DAT\x01\x00", &mut input.proposal);
         }

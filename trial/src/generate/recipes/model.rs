@@ -8,6 +8,7 @@ use crate::generate::mutate::{Sort, mutate};
 use crate::generate::rename::Renaming;
 use crate::generate::{limits, models, paths, patterns};
 use oracle::pattern;
+use oracle::planner::builder::MAX_ENTRIES;
 use oracle::random::Random;
 
 /// A model for the pattern, if that is read, so that it mostly lists the pattern's names; else any.
@@ -53,6 +54,21 @@ pub fn of_many_paths(random: &mut Random, input: &mut Input) {
             .for_each(|node| node.values = node.values.map(|_| random.below(size.nodes) as u16));
     }
     input.proposal = model.to_bytes();
+    rename(random, input);
+}
+
+/// A random model for a pattern of one node, of none but nodes, or of any number of nodes and of paths.
+pub fn of_nodes_and_paths(random: &mut Random, input: &mut Input) {
+    input.operation = Operation::Model;
+    let most = random.pick(&[4, 12, MAX_ENTRIES]);
+    let nodes = match random.below(4) {
+        0 => 1,
+        1 => most,
+        _ => random.between(1, most),
+    };
+    let pattern = patterns::of_nodes(random, nodes, most);
+    input.pattern = pattern.to_bytes();
+    input.proposal = models::random(random, &pattern).to_bytes();
     rename(random, input);
 }
 

@@ -3,6 +3,7 @@
 use super::forms::{Premise, in_common, resembles};
 use super::{TRIES, Walker};
 use crate::generate::mutate::BORDERS;
+use oracle::pattern::Comparison;
 use oracle::random::Random;
 use oracle::tableau::line::Line;
 use oracle::tableau::rules::{self, Step};
@@ -26,6 +27,7 @@ impl Walker<'_> {
                 std::mem::swap(&mut step.p, &mut step.q);
             }
             10 | 11 => step = self.other_axis().unwrap_or(step),
+            12 => step = self.two_differs().unwrap_or(step),
             _ => step = self.almost(random).unwrap_or(step),
         }
         self.tableau.steps.push(step);
@@ -62,6 +64,21 @@ impl Walker<'_> {
         let steps = steps.filter(|&(rule, p, q)| fits_otherwise(rule, &branch[p], &branch[q]));
         let mut steps = steps.map(|(rule, p, q)| Step { rule, p: p as u16, q: q as u16, argument: 0 });
         steps.find(|step| self.apply(step).is_none())
+    }
+
+    /// The first step of rule 20 that fits but for P, which is differ too, if the branch has lines for one.
+    fn two_differs(&self) -> Option<Step> {
+        let differ = |(number, line): (usize, &Line)| match *line {
+            Line::Compare { holds: true, comparison: Comparison::Differ, channel, left, right } => {
+                left.1.or(right.1).is_none().then_some((number as u16, channel, left.0, right.0))
+            }
+            _ => None,
+        };
+        let differs: Vec<_> = self.walk.branch().iter().enumerate().filter_map(differ).collect();
+        differs.iter().find_map(|&(p, channel, _, middle)| {
+            let next = differs.iter().find(|q| (q.1, q.2) == (channel, middle))?;
+            Some(Step { rule: 20, p, q: next.0, argument: 0 })
+        })
     }
 
     /// The number of a random line of the branch that is wanted.
