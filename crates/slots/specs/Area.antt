@@ -17,19 +17,19 @@ use Rattle.pattern.specs.File.Reading.{countOf, sortAt}
 abbrev pub isNodeAt : List ℕ → ℕ → Bool
 isNodeAt bs k = isNode (sortAt bs k)
 
--- 02, Job 5: how many there are for "each node entry of the pattern", whether the root reaches it or not; paths aren't counted
+-- how many the pattern has. 02, Job 5: "each node entry of the pattern": whether the root reaches it or not, and no path
 abbrev pub nodeEntries : List ℕ → ℕ
 nodeEntries bs = countBelow (countOf bs) (isNodeAt bs)
 
--- where the set of node entry k stands: behind those of the node entries before it
-abbrev pub placeOf : List ℕ → ℕ → ℕ
-placeOf bs k = countBelow k (isNodeAt bs)
+-- ---- laws
 
 -- the bytes of all sets
 abbrev pub areaBytes : List ℕ → ℕ
 areaBytes bs = tableBytes (nodeEntries bs)
 
--- ---- laws
+-- where the set of node entry k stands while a model is judged: behind those of the node entries before it
+abbrev pub placeOf : List ℕ → ℕ → ℕ
+placeOf bs k = countBelow k (isNodeAt bs)
 
 module _ (bs : List ℕ) where
   pub place-first : placeOf bs 0 ≡ 0
