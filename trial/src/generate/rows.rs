@@ -277,7 +277,7 @@ mod tests {
 
     #[test]
     fn slots_are_those_of_the_proved_judgement() {
-        let root = include_str!("../../../crates/evaluation/src/root.rt");
+        let root = include_str!("../../../crates/learning/src/root.rt");
         assert_says(
             root,
             &[
@@ -287,7 +287,7 @@ mod tests {
                 "(slots * (n as usize)) <= FEW_ROWS",
             ],
         );
-        let learning = include_str!("../../../crates/evaluation/src/learning.rt");
+        let learning = include_str!("../../../crates/learning/src/learn.rt");
         assert_says(
             learning,
             &[
