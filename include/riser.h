@@ -51,9 +51,9 @@ size_t riser_model_area(const uint8_t *pattern, size_t pattern_length);
 
 /* Judges a model of a pattern: RISER_MET, RISER_UNMET, or RISER_REFUSED with number 1 to 14, 27 or 28,
  * which leaves the area unchanged. An area shorter than riser_model_area says is refused with 9. Met and
- * unmet leave so many first bytes of it zero and the rest unchanged. A model must list every name that the
- * pattern uses: 27 gives the lowest that isn't listed as its place. Its edges must rise by from, then axis,
- * then to, each once: 28 gives the first record that doesn't come after the one before it. */
+ * unmet leave as many of its first bytes zero as that says, and the rest unchanged. A model must list every
+ * name that the pattern uses: 27 gives the lowest that isn't listed as its place. Its edges must rise by
+ * from, then axis, then to, each once: 28 gives the first record that doesn't come after the one before it. */
 uint64_t riser_judge_model(const uint8_t *pattern, size_t pattern_length, const uint8_t *model,
                            size_t model_length, uint8_t *area, size_t area_length);
 

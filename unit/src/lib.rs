@@ -83,9 +83,10 @@ pub fn model_area(pattern: &[u8]) -> usize {
 }
 
 /// Judges a model of a pattern; `model_area` says how many bytes of area it wants, and a shorter one is refused 9. Met
-/// and unmet zero so many first bytes of it and leave the others; a refusal leaves all of them. A model must list every
-/// name that the pattern uses: refusal 27 gives the lowest that isn't listed as its place. Its edges must rise by from,
-/// then axis, then to, each once: refusal 28 gives the first record that doesn't come after the one before it.
+/// and unmet leave as many of its first bytes zero and the others as they were; a refusal leaves all of them. A model
+/// must list every name that the pattern uses: refusal 27 gives the lowest that isn't listed as its place. Its edges
+/// must rise by from, then axis, then to, each once: refusal 28 gives the first record that doesn't come after the one
+/// before it.
 pub fn judge_model(pattern: &[u8], model: &[u8], area: &mut [u8]) -> Finding {
     // SAFETY: the slices are readable, and the area writable, for their lengths; the area is borrowed
     // for writing and so overlaps neither of the others.

@@ -7,11 +7,10 @@ use mathlib.Core.List.{List}
 use Prim.Native.Nat.{ℕ, _+_, _≤_, _<_}
 use native.Mathlib.Omega.{arith}
 use native.Mathlib.Nat.{lt-of-lt-of-le}
-use lib.ListN.{length}
 use Rattle.nodeset.specs.declared.NodeSet.{NodeSet}
 use Rattle.nodeset.specs.Members.{HasExactly}
 use Rattle.nodeset.specs.Set.{has, emptySet, insertIf, meet, minus}
-use Rattle.nodeset.specs.Stored.{tableBytes, setAt}
+use Rattle.nodeset.specs.Stored.{setAt}
 use Rattle.pattern.specs.declared.types.Comparison.{Comparison}
 use Rattle.pattern.specs.declared.table.Sort.{Sort}
 use Rattle.pattern.specs.declared.table.Kind.{Kind}
@@ -25,7 +24,7 @@ use Rattle.relations.specs.Kinds.{nodeKindOf, comparisonKind, IsNodeKind, node-
 use Rattle.relations.specs.Tables.{Before, propertyRow, nameRow, nodesRow}
 use Rattle.relations.specs.Members.{Collected, collected-none, collected-next}
 use Rattle.relations.specs.Values.{Pair, PairFound}
-use Rattle.relations.specs.Paths.{RowsCompared}
+use Rattle.path_rows.specs.Paths.{RowsCompared}
 use Rattle.evaluation.specs.Standing.{Lent, Standing, Evaluates, Ends}
 use Rattle.evaluation.specs.Entries.{refers-as, within-as}
 use Rattle.evaluation.specs.Nodes.{ComparesIn, channel-rows, pair-compares-in, ends-inside, nodes-property, nodes-name, nodes-not, nodes-both, nodes-after, nodes-compare}

@@ -20,10 +20,9 @@ use Rattle.pattern.specs.File.Table.{endOfPath, isNode, path-no-node, sort-no-n
 use Rattle.pattern.specs.File.Reading.{countOf, sortAt}
 use Rattle.pattern.specs.Logic.Finite.{NodeOf, node-same}
 use Rattle.decision.specs.Root.{root-holds}
-use Rattle.relations.specs.Tables.{IsSet}
 use Rattle.relations.specs.Filled.{exactly-put}
-use Rattle.relations.specs.Paths.{RowsFit}
-use Rattle.evaluation.specs.Standing.{Holding, Leading, Lent, Standing, Evaluates, Ends, RootNodes}
+use Rattle.relations.specs.Covered.{RowsFit}
+use Rattle.evaluation.specs.Standing.{Leading, Lent, Standing, Evaluates, Ends, RootNodes}
 use Rattle.slots.specs.Area.{placeOf, areaBytes, set-room, places-differ}
 use Rattle.slots.specs.Marks.{markOf, tagAt, tagOf, tagFor, isKnown, isHeld, firstRow, PathOf, IsFree, MayHold, slots-apart}
 use Rattle.evaluation.specs.Entries.{end-leads}

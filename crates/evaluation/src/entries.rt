@@ -6,6 +6,7 @@
 // ends of a path are in the rows, where the marks say so. Which entries are learned, and in which slot,
 // is a matter of speed alone.
 use nodeset::NodeSet;
+use path_rows::compare_rows;
 use pattern::entry::Entry;
 use pattern::table::END;
 use pattern::types::Comparison;
@@ -18,7 +19,6 @@ use relations::model::before;
 use relations::model::image;
 use relations::model::with_name;
 use relations::model::with_property;
-use relations::paths::compare_rows;
 use relations::values::some_pair;
 use slots::marks::MARKS_BYTES;
 use slots::marks::is_held;

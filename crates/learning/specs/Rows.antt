@@ -17,12 +17,12 @@ use Rattle.pattern.specs.File.Entries.{entryAt}
 use Rattle.pattern.specs.File.Fields.{OfReferences, eachField}
 use Rattle.pattern.specs.File.Reading.{countOf, sortAt}
 use Rattle.pattern.specs.File.Valid.{Valid, EarlierPath}
-use Rattle.pattern.specs.Logic.Finite.{Finite, NodeOf, node-same, namingOf}
+use Rattle.pattern.specs.Logic.Finite.{NodeOf, node-same, namingOf}
 use Rattle.relations.specs.declared.kinds.PathKind.{PathKind}
 use Rattle.relations.specs.Kinds.{pathKindOf, IsPathKind, path-kind-is}
 use Rattle.relations.specs.Tables.{IsSet, successorsRow, nameRow}
 use Rattle.relations.specs.Filled.{Filled}
-use Rattle.relations.specs.Paths.{RowBy, InRange, Bounded}
+use Rattle.path_rows.specs.Paths.{RowBy, InRange, Bounded}
 use Rattle.evaluation.specs.Standing.{Holding, Leading, Lent, Standing, Evaluates, Ends}
 use Rattle.slots.specs.Marks.{PathOf, firstRow, isHeld, fieldHeld, each-held}
 use Rattle.evaluation.specs.Entries.{earlier-path, refers-as, within-as, uses-its-name, path-clause}

@@ -2,12 +2,12 @@
 // loses the path that it had.
 use evaluation::evaluate;
 use nodeset::NodeSet;
+use path_rows::fill_rows;
 use pattern::entry::Entry;
 use pattern::entry::sort_at;
 use pattern::table::END;
 use relations::kinds::PathKind;
 use relations::kinds::path_kind;
-use relations::paths::fill_rows;
 use slots::marks::MARKS_BYTES;
 use slots::marks::TAGS;
 use slots::marks::first_row;
@@ -21,7 +21,7 @@ ghost use mathlib.Core.Path.{_≡_};
 ghost use Prim.Native.Nat.{_<_};
 ghost use Rattle.pattern.specs.declared.table.Sort.{Sort};
 ghost use Rattle.pattern.specs.File.Reading.{countOf, sortAt};
-ghost use Rattle.relations.specs.Paths.{RowsFit};
+ghost use Rattle.relations.specs.Covered.{RowsFit};
 ghost use Rattle.evaluation.specs.Standing.{Lent};
 ghost use Rattle.slots.specs.Area.{placeOf};
 ghost use Rattle.slots.specs.Marks.{firstRow, IsFree, MayHold, SlotsFit};
@@ -279,7 +279,46 @@ fn bring_back(
     learn_needed(p, table, alike, area, rows, marks, n, slots, last, k);
 }
 
-// Learns entry k, if the root reaches it; of a node entry this is the place of its set.
+// Entry k gets its set at this place in the area, or its rows in a slot.
+fn learn_entry(
+    p: &[u8],
+    table: &[u8],
+    alike: &[u8],
+    area: &mut [u8],
+    rows: &mut [u8],
+    marks: &mut [u8; MARKS_BYTES],
+    n: u8,
+    slots: u8,
+    last: &[u8; USES_BYTES],
+    k: u8,
+    place: u8,
+)
+    requires { ⌜ Lent (now p) (now table) (now alike) n ⌝ }
+    requires { ⌜ Learned (now p) (now table) (now alike) n (now area) (now rows) (now marks) ⌝ }
+    requires { ⌜ SlotsFit (now rows) n slots × (k < countOf (now p)) × (place ≡ placeOf (now p) k) ⌝ }
+    ensures { λ _. ⌜ Learned (now (p .entry)) (now (table .entry)) (now (alike .entry)) n (now (area .exit)) (now (rows .exit)) (now (marks .exit)) ⌝ }
+{
+    if sort_at(p, k).is_node() {
+        learn_node(p, table, alike, area, rows, marks, n, k, place);
+        return;
+    }
+    learn_in_slot(
+        p,
+        table,
+        alike,
+        area,
+        rows,
+        marks,
+        n,
+        slots,
+        last,
+        last,
+        k,
+        k,
+    );
+}
+
+// The same if the root reaches it; the paths that it needs get their rows back first.
 pub fn learn(
     p: &[u8],
     table: &[u8],
@@ -302,22 +341,5 @@ pub fn learn(
         return;
     }
     bring_back(p, table, alike, area, rows, marks, n, slots, last, k);
-    if sort_at(p, k).is_node() {
-        learn_node(p, table, alike, area, rows, marks, n, k, place);
-        return;
-    }
-    learn_in_slot(
-        p,
-        table,
-        alike,
-        area,
-        rows,
-        marks,
-        n,
-        slots,
-        last,
-        last,
-        k,
-        k,
-    );
+    learn_entry(p, table, alike, area, rows, marks, n, slots, last, k, place);
 }

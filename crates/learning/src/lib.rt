@@ -1,5 +1,5 @@
-// Where the root of a pattern holds in a finite data model: what is learned of the entries that it reaches,
-// so that nothing is computed twice.
+// Where the root of a pattern holds in a finite data model: by what is learned of the entries that it
+// reaches, one after the other.
 mod learn;
 mod root;
 

@@ -3,7 +3,7 @@
 use crate::learn::learn;
 use evaluation::evaluate;
 use nodeset::NodeSet;
-use relations::paths::fill_end;
+use path_rows::fill_end;
 use slots::area::one_node;
 use slots::marks::MARKS_BYTES;
 use slots::marks::slot_count;

@@ -1,5 +1,5 @@
--- Judging a model, 01's "Findings" and 02's Jobs 1 and 3: the refusals in their order, the finding, what becomes of the working area, and what a
--- finding says.
+-- Judging a model, 01's "Findings" and 02's Jobs 1, 3 and 5: the refusals in their order, the finding, what becomes of the working area, and
+-- what a finding says.
 -- Assumes nothing.
 use mathlib.Core.Path.{_≡_, refl, sym, _∙_, ap, subst}
 use mathlib.Core.Bool.{Bool, true, false, not, _&&_, false≢true}
@@ -158,7 +158,7 @@ module _ (order : Order) (bs ds : List ℕ) (size : ℕ) (ok : patternCheck bs �
   unfolding judgingCheck
   area-decides short = rw (ok, lt-ltb size (areaNeed bs) short)
 
-  -- and the model where it isn't
+  -- and the model where it isn't. "27 follows all edge records.": what the file is refused for is found whatever names it lists
   pub model-decides : areaNeed bs ≤ size → judgingCheck order bs ds size ≡ modelCheck order ds then namesCheck bs ds
   unfolding judgingCheck
   model-decides long = rw (ok, le-ltb size (areaNeed bs) long)
@@ -211,12 +211,13 @@ judging-says bs ds size j = (apart, together)
 
 -- ---- what 02's jobs left as it was
 
--- what judging finds without the check of 02's Job 1, the last; in any order it is what 01 says (`model-any`)
+-- what judging finds without the check of 02's Job 1, the last; in any order (`model-any`), and but for the length of the area, it is what
+-- 01 says
 abbrev pub judgingBefore : Order → List ℕ → List ℕ → ℕ → Finding Judged
 judgingBefore order bs ds size =
     unless (patternCheck bs then areaCheck (areaNeed bs) size then modelCheck order ds) (judgedOf (modelFrom ds) (rootOf bs))
 
--- a model that lists the names of the pattern is judged as before that job
+-- a model that lists the names of the pattern is judged as without that check
 pub listed-as-before : (order : Order) (bs ds : List ℕ) (size : ℕ) → NamesListed bs ds
     → judgingBy order bs ds size ≡ judgingBefore order bs ds size
 unfolding judgingBy judgingCheck
@@ -230,7 +231,29 @@ pub nameless-as-before : (order : Order) (bs ds : List ℕ) (size : ℕ) → ((i
     → judgingBy order bs ds size ≡ judgingBefore order bs ds size
 nameless-as-before order bs ds size none = listed-as-before order bs ds size (λ i used. absurd (false≢true (sym (none i) ∙ used)))
 
--- the area that a caller must lend
+-- a model whose edges rise, as G's do, is judged as without 02's Job 3, refusals included
+pub rising-as-before : (bs ds : List ℕ) (size : ℕ) → EdgesRise ds → judgingOf bs ds size ≡ judgingBy Order.Any bs ds size
+unfolding judgingBy judgingCheck
+rising-as-before bs ds size h = rw (model-unordered ds h)
+
+-- "A repeat is therefore refused too.": nothing is found of a file that has an edge twice
+pub repeat-refused : (bs ds : List ℕ) (size : ℕ) (j : Judged) → judgingOf bs ds size ≡ found j
+    → (i k : ℕ) → i < k → k < edgeCount ds → edgeAt ds i ≡ edgeAt ds k → ⊥
+repeat-refused bs ds size j h = no-repeat (edgeCount ds) (edgeAt ds) (judging-says bs ds size j .0 h .edges-rise)
+
+-- "node 0 stands in only for names that the pattern doesn't use": whatever nodes they named instead, the finding would be the same
+pub stand-in-unseen : (bs ds : List ℕ) (size : ℕ) (j : Judged) → judgingOf bs ds size ≡ found j
+    → (named : ℕ → ℕ) → ((i : ℕ) → named i < nodeCount ds) → ((i : ℕ) → isListed ds i ≡ true → named i ≡ nodeNamed ds i)
+    → judgedOf (renamed (modelFrom ds) named) (rootOf bs) ≡ j
+stand-in-unseen bs ds size j found-j named within same =
+    let h = judging-says bs ds size j .0 found-j in
+    let ok = all-named (h .model-valid) in
+    judged-renamed (h .pattern-valid) (modelFrom ds) ok named within (λ i used. same i (h .names-listed i used))
+    ∙ judged-says (modelFrom ds) ok (rootOf bs) j .1 (h .says)
+
+-- ---- the working area
+
+-- of a pattern that isn't refused, what must be lent is what it needs
 wanted-passed : (bs : List ℕ) → patternCheck bs ≡ passes → areaWanted bs ≡ areaNeed bs
 wanted-passed bs ok = rw ok
 
@@ -260,25 +283,7 @@ enough-as-before order bs ds size long = go (patternCheck bs) refl
     go passes e = rw (e, le-ltb size (areaNeed bs) (rw (wanted-passed bs e) at long))
     go (refuses number place) e = rw e
 
--- a model whose edges rise, as G's do, is judged as without 02's Job 3, refusals included
-pub rising-as-before : (bs ds : List ℕ) (size : ℕ) → EdgesRise ds → judgingOf bs ds size ≡ judgingBy Order.Any bs ds size
-unfolding judgingBy judgingCheck
-rising-as-before bs ds size h = rw (model-unordered ds h)
-
--- "A repeat is therefore refused too.": nothing is found of a file that has an edge twice
-pub repeat-refused : (bs ds : List ℕ) (size : ℕ) (j : Judged) → judgingOf bs ds size ≡ found j
-    → (i k : ℕ) → i < k → k < edgeCount ds → edgeAt ds i ≡ edgeAt ds k → ⊥
-repeat-refused bs ds size j h = no-repeat (edgeCount ds) (edgeAt ds) (judging-says bs ds size j .0 h .edges-rise)
-
--- "node 0 stands in only for names that the pattern doesn't use": whatever nodes they named instead, the finding would be the same
-pub stand-in-unseen : (bs ds : List ℕ) (size : ℕ) (j : Judged) → judgingOf bs ds size ≡ found j
-    → (named : ℕ → ℕ) → ((i : ℕ) → named i < nodeCount ds) → ((i : ℕ) → isListed ds i ≡ true → named i ≡ nodeNamed ds i)
-    → judgedOf (renamed (modelFrom ds) named) (rootOf bs) ≡ j
-stand-in-unseen bs ds size j found-j named within same =
-    let h = judging-says bs ds size j .0 found-j in
-    let ok = all-named (h .model-valid) in
-    judged-renamed (h .pattern-valid) (modelFrom ds) ok named within (λ i used. same i (h .names-listed i used))
-    ∙ judged-says (modelFrom ds) ok (rootOf bs) j .1 (h .says)
+-- ---- what is found
 
 -- a set that has the nodes where the root holds, and no other number, is judged as the definition says
 pub root-judged : (bs : List ℕ) {ds : List ℕ} (ok : ValidModel ds) (s : NodeSet) → ((u : ℕ) → has s u ≡ rootHolds bs (modelFrom ds) u)

@@ -1,5 +1,6 @@
 // Judging a model: the refusals of document 01 in its order, among them document 02's 28 and behind
-// them its 27, and then met, with the lowest node and the number of nodes, or unmet.
+// them its 27, and then met, with the lowest node and the number of nodes, or unmet; and how much working
+// area it wants.
 use model::finding::JudgeRefusal;
 use model::finding::ModelFinding;
 use model_file::ModelCheck;
@@ -25,7 +26,7 @@ ghost use Rattle.model_records.specs.Valid.{ValidModel};
 ghost use Rattle.model.specs.Judging.{areaWanted, namesCheck, judgingOf, areaAfter, findingOf};
 ghost use Rattle.model_judge.specs.Checked.{checkOf};
 
-// How the refusals came out.
+// How the checks of the model came out.
 enum JudgeCheck {
     Passed,
     Refused(JudgeRefusal),

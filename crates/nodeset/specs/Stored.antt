@@ -16,7 +16,7 @@ use Rattle.nodeset.specs.declared.NodeSet.{NodeSet}
 use Rattle.nodeset.specs.Bits.{on, on-none, on-rest}
 use Rattle.nodeset.specs.Set.{width, has}
 
--- the bytes of a table of n sets: 01's "2,040 bytes" of working area are 255 of them
+-- the bytes of a table of n sets: 02's "8 bytes for each node entry" are those of one
 abbrev pub tableBytes : ℕ → ℕ
 tableBytes n = 8 * n
 

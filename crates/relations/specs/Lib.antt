@@ -2,6 +2,6 @@
 pub mod Kinds
 pub mod Tables
 pub mod Members
+pub mod Covered
 pub mod Filled
 pub mod Values
-pub mod Paths

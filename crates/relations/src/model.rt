@@ -13,10 +13,10 @@ ghost use Rattle.nodeset.specs.Members.{HasExactly};
 ghost use Rattle.pattern.specs.File.Types.{maxAxis, maxProperty, maxName};
 ghost use Rattle.relations.specs.Tables.{successorsRow, propertyRow, nameRow, nodesRow, modelRows, Before};
 ghost use Rattle.relations.specs.Members.{Image};
-ghost use Rattle.relations.specs.Paths.{Within};
+ghost use Rattle.relations.specs.Covered.{Within};
 
 // The successors of node u on an axis.
-pub(crate) fn successors(table: &[u8], axis: u8, u: u8) -> NodeSet
+pub fn successors(table: &[u8], axis: u8, u: u8) -> NodeSet
     requires { ⌜ tableBytes modelRows ≤ length (now table) ⌝ }
     requires { ⌜ (axis ≤ maxAxis) × (u < width) ⌝ }
     ensures { λ r. ⌜ r ≡ setAt (now (table .entry)) (successorsRow axis u) ⌝ }
@@ -52,7 +52,7 @@ pub fn all_nodes(table: &[u8]) -> NodeSet
 
 // The union of the rows from `first` on of the nodes of a set, where no such row has a node that `all`
 // lacks: when all are found the other rows add none.
-pub(crate) fn union_within(rows: &[u8], first: usize, s: NodeSet, all: NodeSet) -> NodeSet
+pub fn union_within(rows: &[u8], first: usize, s: NodeSet, all: NodeSet) -> NodeSet
     requires { ⌜ Within (now rows) first s all ⌝ }
     ensures { λ r. ⌜ HasExactly (Image (λ u. setAt (now (rows .entry)) (first + u)) s) r ⌝ }
 {

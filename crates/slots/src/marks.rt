@@ -1,8 +1,8 @@
 // What was learned: for each entry its mark, and for each slot of the rows its tag. The mark of a node
-// entry is 0 until its set is in the area, and then one more than the set's place there. The mark of a path is the slot that it was given last, and the
-// tag of a slot says whose rows it has: it is END less the number of the path, so that at first every
-// slot has the tag of the end of path. The rows of the end of path are in slot 0, which no other path is
-// given.
+// entry is 0 until its set is in the area, and then one more than the place of the set. The mark of a path
+// is the slot that it was given last, and the tag of a slot says whose rows it has: it is END less the
+// number of the path, so that at first every slot has the tag of the end of path. The rows of the end of
+// path are in slot 0, which no other path is given.
 use nodeset::NodeSet;
 use pattern::entry::Entry;
 use pattern::table::END;

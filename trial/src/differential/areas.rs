@@ -7,7 +7,7 @@ use oracle::model::AREA;
 use oracle::pattern::{self, Entry, Pattern};
 
 /// The bytes that are wanted for a node entry.
-const SET: usize = 8;
+pub(super) const SET: usize = 8;
 
 pub const AREAS: [Limit; 20] = [
     ("found in as many bytes as wanted", |it| it.found_over(0)),
@@ -69,7 +69,7 @@ fn nodes_reached(pattern: &Pattern) -> usize {
 }
 
 impl Judged<'_> {
-    /// The bytes that are wanted for a pattern that was read.
+    /// The bytes that are wanted for a pattern that was read; kinds from 8 on are paths.
     fn wanted(&self) -> usize {
         SET * self.entries().iter().filter(|entry| entry[0] < 8).count()
     }

@@ -1,5 +1,6 @@
 //! Older models: what an input shows of putting one in order, and of judging it then.
 
+use super::areas::SET;
 use super::edges::compared;
 use super::limits::{Judged, Limit};
 use crate::generate::input::Never;
@@ -88,7 +89,7 @@ pub const JUDGED_OLD: [Limit; 14] = [
         it.found_in_more_than_enough() && !it.rise()
     }),
     ("refused 9 in a byte less than wanted", |it| it.short_by(1)),
-    ("refused 9 in a set less than wanted", |it| it.short_by(8)),
+    ("refused 9 in a set less than wanted", |it| it.short_by(SET)),
     ("pattern with a closed tableau unmet, edges out of order", |it| {
         it.finding == Finding::Unmet && it.input.never == Some(Never::Met) && !it.rise()
     }),

@@ -82,8 +82,8 @@ impl Area {
     }
 }
 
-/// The length of an area for judging a model of the pattern: mostly what is wanted, often a byte more or up to a set
-/// more or less; now and then what would be wanted if paths counted too, if only what the root reaches did, or for any
+/// The length of an area for judging a model of the pattern: mostly what is wanted, often a byte more, or up to a byte
+/// over a set more or less; now and then what would be wanted if paths counted too, if only what the root reaches did, or for any
 /// pattern; else any.
 fn length_for(random: &mut Random, pattern: &Pattern) -> usize {
     let wanted = model::area(pattern);

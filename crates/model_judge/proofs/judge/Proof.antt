@@ -2,7 +2,6 @@
 -- Assumes nothing.
 use borrow.Author.Needs.{needs}
 use mathlib.Core.Path.{refl, sym, _∙_, ap}
-use lib.ListN.{length}
 use Rattle.pattern.specs.File.Reading.{findingOf}
 use Rattle.pattern.specs.File.Valid.{read-refuses}
 use Rattle.model.specs.Judging.{judgingBy, judgingCheck}

@@ -1,4 +1,4 @@
--- `evaluation::kinds::node_kind` meets its contract.
+-- `relations::kinds::node_kind` meets its contract.
 -- Assumes nothing.
 use borrow.Author.Needs.{needs}
 use Rattle.relations.proofs.kinds.node_kind.Statement.{statement}

@@ -10,7 +10,7 @@ use Rattle.nodeset.specs.Stored.{setAt}
 use Rattle.nodeset.specs.Members.{HasExactly, member-below}
 use Rattle.relations.specs.Tables.{successorsRow}
 use Rattle.relations.specs.Members.{Image}
-use Rattle.relations.specs.Paths.{every-covers, within-first}
+use Rattle.relations.specs.Covered.{every-covers, within-first}
 use Rattle.relations.proofs.model.image.Statement.{statement}
 use Rattle.relations.proofs.model.image.Tie as tie
 

@@ -9,7 +9,7 @@ use Rattle.evaluation.proofs.entries.add.Reads as add-reads
 use Rattle.relations.proofs.model.all_nodes.Reads as all-nodes-reads
 use Rattle.pattern.proofs.entry.Entry.at.Reads as at-reads
 use Rattle.relations.proofs.model.before.Reads as before-reads
-use Rattle.relations.proofs.paths.compare_rows.Reads as compare-rows-reads
+use Rattle.path_rows.proofs.compare_rows.Reads as compare-rows-reads
 use Rattle.nodeset.proofs.NodeSet.empty.Reads as empty-reads
 use Rattle.evaluation.proofs.entries.entries_swept.Reads as entries-swept-reads
 use Rattle.relations.proofs.model.image.Reads as image-reads

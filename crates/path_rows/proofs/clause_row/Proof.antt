@@ -1,4 +1,4 @@
--- `relations::paths::clause_row` meets its contract, kind by kind.
+-- `path_rows::clause_row` meets its contract, kind by kind.
 -- Assumes nothing.
 use mathlib.Core.Path.{_≡_, sym, _∙_}
 use mathlib.Core.Bool.{true, false≢true}
@@ -6,10 +6,10 @@ use Prim.Native.Nat.{ℕ, _<_}
 use borrow.Author.Needs.{needs}
 use Rattle.nodeset.specs.declared.NodeSet.{NodeSet}
 use Rattle.nodeset.specs.Set.{has}
 use Rattle.relations.specs.Members.{exactly-empty, exactly-union}
-use Rattle.relations.specs.Paths.{Within, within-first}
-use Rattle.relations.proofs.paths.clause_row.Statement.{statement}
-use Rattle.relations.proofs.paths.clause_row.Tie as tie
+use Rattle.relations.specs.Covered.{Within, within-first}
+use Rattle.path_rows.proofs.clause_row.Statement.{statement}
+use Rattle.path_rows.proofs.clause_row.Tie as tie
 
 -- the rows that a set of nodes below n asks for
 asked : (c : tie.Start) (s : NodeSet) → ((v : ℕ) → has s v ≡ true → v < c .args .n)

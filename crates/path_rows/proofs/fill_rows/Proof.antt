@@ -1,4 +1,4 @@
--- `relations::paths::fill_rows` meets its contract: the rows of the nodes passed are filled, and those that they are made from stay.
+-- `path_rows::fill_rows` meets its contract: the rows of the nodes passed are filled, and those that they are made from stay.
 -- Assumes nothing.
 use mathlib.Core.Path.{_≡_, refl, _∙_}
 use mathlib.Core.Logic.{_↔_}
@@ -9,10 +9,10 @@ use borrow.Author.Needs.{needs}
 use Rattle.nodeset.specs.declared.NodeSet.{NodeSet}
 use Rattle.nodeset.specs.Members.{HasExactly}
 use Rattle.nodeset.specs.Stored.{setAt, length-put}
 use Rattle.relations.specs.Filled.{Filled, filled-none, filled-more}
-use Rattle.relations.specs.Paths.{Apart, RowBy, apart-kept, covers-kept, parts-kept, rows-same}
-use Rattle.relations.proofs.paths.fill_rows.Statement.{statement}
-use Rattle.relations.proofs.paths.fill_rows.Tie as tie
+use Rattle.path_rows.specs.Paths.{Apart, RowBy, apart-kept, covers-kept, parts-kept, rows-same}
+use Rattle.path_rows.proofs.fill_rows.Statement.{statement}
+use Rattle.path_rows.proofs.fill_rows.Tie as tie
 
 abbrev Inv-loop : tie.InvT-loop
 Inv-loop table rows₀ n kind x held first second at all u₀ rows u =

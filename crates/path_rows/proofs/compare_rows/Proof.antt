@@ -1,4 +1,4 @@
--- `relations::paths::compare_rows` meets its contract: of the numbers passed, those whose rows have a pair are collected.
+-- `path_rows::compare_rows` meets its contract: of the numbers passed, those whose rows have a pair are collected.
 -- Assumes nothing.
 use mathlib.Core.Path.{_≡_}
 use Prim.Native.Nat.{ℕ, _+_, _-_, _≤_, _<_}
@@ -6,11 +6,11 @@ use native.Mathlib.Omega.{arith}
 use borrow.Author.Needs.{needs}
 use Rattle.nodeset.specs.Stored.{setAt}
 use Rattle.pattern.specs.Logic.Finite.{Finite}
 use Rattle.relations.specs.Tables.{AlikeOn, Inside}
 use Rattle.relations.specs.Members.{Collected, collected-none, collected-next}
 use Rattle.relations.specs.Values.{Pair}
-use Rattle.relations.proofs.paths.compare_rows.Statement.{statement}
-use Rattle.relations.proofs.paths.compare_rows.Tie as tie
+use Rattle.path_rows.proofs.compare_rows.Statement.{statement}
+use Rattle.path_rows.proofs.compare_rows.Tie as tie
 
 abbrev Inv-loop : tie.InvT-loop
 Inv-loop alike rows n channel c first second found₀ u₀ found u =

@@ -1,12 +1,12 @@
 // The rows of a path, one for each node: its ends from that node. They are made from the rows of the
 // paths that it goes on by, and compared with those of another path.
-use crate::kinds::PathKind;
-use crate::model::successors;
-use crate::model::union_within;
-use crate::model::with_name;
-use crate::values::some_pair;
 use nodeset::NodeSet;
 use pattern::types::Comparison;
+use relations::kinds::PathKind;
+use relations::model::successors;
+use relations::model::union_within;
+use relations::model::with_name;
+use relations::values::some_pair;
 ghost use mathlib.Core.Path.{_≡_};
 ghost use mathlib.Core.Bool.{true};
 ghost use Prim.Native.Nat.{_+_, _≤_, _<_};
@@ -15,9 +15,10 @@ ghost use Rattle.nodeset.specs.Set.{width};
 ghost use Rattle.nodeset.specs.Stored.{tableBytes, setAt};
 ghost use Rattle.nodeset.specs.Members.{HasExactly};
 ghost use Rattle.pattern.specs.File.Types.{maxAxis, maxChannel};
 ghost use Rattle.relations.specs.Tables.{successorsRow, modelRows, alikeRows};
 ghost use Rattle.relations.specs.Filled.{Filled};
-ghost use Rattle.relations.specs.Paths.{RowsFit, Covers, Apart, Within, Parts, LeadsAlike, StepRow, RowBy, FilledBelow, RowsCompared};
+ghost use Rattle.relations.specs.Covered.{RowsFit, Covers, Within};
+ghost use Rattle.path_rows.specs.Paths.{Apart, Parts, LeadsAlike, StepRow, RowBy, FilledBelow, RowsCompared};
 
 // A set that has all nodes of the n rows from `first` on: of a step, whose rows are unions, no more than
 // those, and of the others every node.

@@ -1,4 +1,4 @@
--- `relations::paths::fill_end` meets its contract: the rows of the numbers passed are filled, each with that number alone.
+-- `path_rows::fill_end` meets its contract: the rows of the numbers passed are filled, each with that number alone.
 -- Assumes nothing.
 use mathlib.Core.Path.{_≡_, refl, _∙_}
 use Prim.Native.Nat.{_≤_, _-_}
@@ -6,9 +6,9 @@ use native.Mathlib.Omega.{arith}
 use lib.ListN.{length}
 use borrow.Author.Needs.{needs}
 use Rattle.nodeset.specs.Stored.{length-put}
 use Rattle.relations.specs.Filled.{Filled, filled-none, filled-more, exactly-only}
-use Rattle.relations.proofs.paths.fill_end.Statement.{statement}
-use Rattle.relations.proofs.paths.fill_end.Tie as tie
+use Rattle.path_rows.proofs.fill_end.Statement.{statement}
+use Rattle.path_rows.proofs.fill_end.Tie as tie
 
 abbrev Inv-loop : tie.InvT-loop
 Inv-loop rows₀ n u₀ rows u = (u ≤ n) × (length rows ≡ length rows₀) × Filled (λ i. i) (λ i v. v ≡ i) u rows₀ rows

@@ -1,12 +1,12 @@
--- `relations::paths::reach` meets its contract.
+-- `path_rows::reach` meets its contract.
 -- Assumes nothing.
 use mathlib.Core.Path.{sym, _∙_}
 use borrow.Author.Tests.{ltb-true}
 use borrow.Author.Needs.{needs}
 use Rattle.nodeset.specs.Set.{has-below}
-use Rattle.relations.specs.Paths.{every-covers, within-first, union-covers}
-use Rattle.relations.proofs.paths.reach.Statement.{statement}
-use Rattle.relations.proofs.paths.reach.Tie as tie
+use Rattle.relations.specs.Covered.{every-covers, within-first, union-covers}
+use Rattle.path_rows.proofs.reach.Statement.{statement}
+use Rattle.path_rows.proofs.reach.Tie as tie
 
 below-requires : tie.Need-below-requires
 below-requires c κs = search needs

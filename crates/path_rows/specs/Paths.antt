@@ -1,44 +1,30 @@
 -- The rows of a path: for each node a set, the ends of the path from that node. The rows of a path follow by the clause of its kind from
 -- those of the paths that it goes on by.
 -- Assumes nothing.
-use mathlib.Core.Path.{_≡_, sym, _∙_, subst}
+use mathlib.Core.Path.{_≡_, sym, subst}
 use mathlib.Core.Bool.{true}
 use mathlib.Core.Logic.{_⊎_, inl, inr, _↔_}
 use mathlib.Core.List.{List}
 use Prim.Native.Nat.{ℕ, _+_, _-_, _≤_, _<_}
-use native.Mathlib.Omega.{arith}
 use native.Mathlib.Nat.{lt-of-lt-of-le}
 use lib.ListN.{length}
-use borrow.Author.Tests.{lt-ltb}
 use Rattle.nodeset.specs.declared.NodeSet.{NodeSet}
-use Rattle.nodeset.specs.Set.{width, has, below, has-below}
+use Rattle.nodeset.specs.Set.{width, has}
 use Rattle.nodeset.specs.Stored.{tableBytes, setAt}
-use Rattle.nodeset.specs.Members.{HasExactly, member-below}
+use Rattle.nodeset.specs.Members.{HasExactly}
 use Rattle.pattern.specs.declared.types.Comparison.{Comparison}
 use Rattle.pattern.specs.File.Types.{maxAxis, maxName}
 use Rattle.pattern.specs.Logic.Finite.{Finite}
 use Rattle.relations.specs.declared.kinds.PathKind.{PathKind}
 use Rattle.relations.specs.Tables.{successorsRow, nameRow, modelRows, AlikeOn, Inside}
 use Rattle.relations.specs.Members.{Image, Collected}
+use Rattle.relations.specs.Covered.{RowsFit, Covers}
 use Rattle.relations.specs.Filled.{Filled}
 use Rattle.relations.specs.Values.{Pair}
-
--- the n rows from `first` on are there
-abbrev pub RowsFit : List ℕ → ℕ → ℕ → Type 0
-RowsFit rows n first = tableBytes (first + n) ≤ length rows
-
--- a set has all that they have
-abbrev pub Covers : List ℕ → ℕ → ℕ → NodeSet → Type 0
-Covers rows n first all = (u v : ℕ) → u < n → has (setAt rows (first + u)) v ≡ true → has all v ≡ true
 
 -- the rows from `first` on and those from `at` on are different rows
 abbrev pub Apart : ℕ → ℕ → ℕ → Type 0
 Apart n first at = (u v : ℕ) → u < n → v < n → first + u ≡ at + v → ⊥
-
--- the rows of the nodes of a set are there, and another set has all that they have
-pub record Within (rows : List ℕ) (first : ℕ) (s all : NodeSet) : Type 0 where
-  pub fits : (u : ℕ) → has s u ≡ true → tableBytes (first + u + 1) ≤ length rows
-  pub within : (u v : ℕ) → has s u ≡ true → has (setAt rows (first + u)) v ≡ true → has all v ≡ true
 
 -- a number as the kind's first field has it: an axis of a step, a name of a jump
 abbrev pub InRange : PathKind → ℕ → Type 0
@@ -95,22 +81,6 @@ RowsCompared alike rows n e c first second s =
     → Collected (λ u. Pair alike e c (setAt rows (first + u)) (setAt rows (second + u))) n s
 
 -- ---- laws
--- the set of all numbers covers any rows
-pub every-covers : (rows : List ℕ) (n first : ℕ) (all : NodeSet) → all ≡ below width → Covers rows n first all
-every-covers rows n first all e u v l h =
-    rw (e, has-below width v (omega arith)) (lt-ltb v width (member-below (setAt rows (first + u)) v h))
-
--- the rows of the nodes below n are those of each set of such nodes
-pub within-first : (rows : List ℕ) (n first : ℕ) (s all : NodeSet) → RowsFit rows n first → Covers rows n first all
-    → ((u : ℕ) → has s u ≡ true → u < n) → Within rows first s all
-within-first rows n first s all l covers bound =
-    record { fits = λ u m. omega (arith, bound u m); within = λ u v m h. covers u v (bound u m) h }
-
--- what covers the union of the rows covers each
-pub union-covers : (rows : List ℕ) (n first : ℕ) (all : NodeSet) → n ≤ width
-    → HasExactly (Image (λ u. setAt rows (first + u)) (below n)) all → Covers rows n first all
-union-covers rows n first all w h u v l m = h v .1 (u, (has-below n u w ∙ lt-ltb u n l, m))
-
 -- filling rows leaves those that are apart from them
 pub apart-kept : (Q : ℕ → ℕ → Type 0) (n k first at : ℕ) (rows rows′ : List ℕ) → Apart n first at → k ≤ n
     → Filled (λ j. at + j) Q k rows rows′ → (u : ℕ) → u < n → setAt rows′ (first + u) ≡ setAt rows (first + u)

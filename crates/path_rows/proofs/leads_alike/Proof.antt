@@ -1,4 +1,4 @@
--- `relations::paths::leads_alike` meets its contract: sets of one number are one set.
+-- `path_rows::leads_alike` meets its contract: sets of one number are one set.
 -- Assumes nothing.
 use mathlib.Core.Path.{_≡_, sym, ap, _∙_}
 use mathlib.Core.Bool.{false≢true}
@@ -6,8 +6,8 @@ use borrow.Author.Needs.{needs}
 use borrow.Author.Tests.{eqb-true}
 use Rattle.nodeset.specs.declared.NodeSet.{NodeSet}
 use Rattle.nodeset.specs.Set.{numberOf, setOf, number-back}
-use Rattle.relations.proofs.paths.leads_alike.Statement.{statement}
-use Rattle.relations.proofs.paths.leads_alike.Tie as tie
+use Rattle.path_rows.proofs.leads_alike.Statement.{statement}
+use Rattle.path_rows.proofs.leads_alike.Tie as tie
 
 same-set : (s t : NodeSet) → numberOf s ≡ numberOf t → s ≡ t
 same-set s t e = sym (number-back s) ∙ ap setOf e ∙ number-back t

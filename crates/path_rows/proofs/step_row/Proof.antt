@@ -1,11 +1,11 @@
--- `relations::paths::step_row` meets its contract: of equal successors the unions of the rows are equal.
+-- `path_rows::step_row` meets its contract: of equal successors the unions of the rows are equal.
 -- Assumes nothing.
 use Prim.Native.Nat.{_-_}
 use native.Mathlib.Omega.{arith}
 use borrow.Author.Needs.{needs}
-use Rattle.relations.specs.Paths.{LeadsAlike}
-use Rattle.relations.proofs.paths.step_row.Statement.{statement}
-use Rattle.relations.proofs.paths.step_row.Tie as tie
+use Rattle.path_rows.specs.Paths.{LeadsAlike}
+use Rattle.path_rows.proofs.step_row.Statement.{statement}
+use Rattle.path_rows.proofs.step_row.Tie as tie
 
 -- what was found of the node and the one before it
 alike : (c : tie.Then1) → let a = c .before .before .before .before .args in LeadsAlike (a .table .now) (a .axis) (a .u)
