@@ -279,46 +279,8 @@ fn bring_back(
     learn_needed(p, table, alike, area, rows, marks, n, slots, last, k);
 }
 
-// Entry k gets its set at this place in the area, or its rows in a slot.
-fn learn_entry(
-    p: &[u8],
-    table: &[u8],
-    alike: &[u8],
-    area: &mut [u8],
-    rows: &mut [u8],
-    marks: &mut [u8; MARKS_BYTES],
-    n: u8,
-    slots: u8,
-    last: &[u8; USES_BYTES],
-    k: u8,
-    place: u8,
-)
-    requires { ⌜ Lent (now p) (now table) (now alike) n ⌝ }
-    requires { ⌜ Learned (now p) (now table) (now alike) n (now area) (now rows) (now marks) ⌝ }
-    requires { ⌜ SlotsFit (now rows) n slots × (k < countOf (now p)) × (place ≡ placeOf (now p) k) ⌝ }
-    ensures { λ _. ⌜ Learned (now (p .entry)) (now (table .entry)) (now (alike .entry)) n (now (area .exit)) (now (rows .exit)) (now (marks .exit)) ⌝ }
-{
-    if sort_at(p, k).is_node() {
-        learn_node(p, table, alike, area, rows, marks, n, k, place);
-        return;
-    }
-    learn_in_slot(
-        p,
-        table,
-        alike,
-        area,
-        rows,
-        marks,
-        n,
-        slots,
-        last,
-        last,
-        k,
-        k,
-    );
-}
-
-// The same if the root reaches it; the paths that it needs get their rows back first.
+// Entry k gets its set at this place in the area, or its rows in a slot; the paths that it needs get theirs
+// back first.
 pub fn learn(
     p: &[u8],
     table: &[u8],
@@ -337,9 +299,23 @@ pub fn learn(
     requires { ⌜ SlotsFit (now rows) n slots × (k < countOf (now p)) × (place ≡ placeOf (now p) k) ⌝ }
     ensures { λ _. ⌜ Learned (now (p .entry)) (now (table .entry)) (now (alike .entry)) n (now (area .exit)) (now (rows .exit)) (now (marks .exit)) ⌝ }
 {
-    if last[k as usize] == 0 {
+    bring_back(p, table, alike, area, rows, marks, n, slots, last, k);
+    if sort_at(p, k).is_node() {
+        learn_node(p, table, alike, area, rows, marks, n, k, place);
         return;
     }
-    bring_back(p, table, alike, area, rows, marks, n, slots, last, k);
-    learn_entry(p, table, alike, area, rows, marks, n, slots, last, k, place);
+    learn_in_slot(
+        p,
+        table,
+        alike,
+        area,
+        rows,
+        marks,
+        n,
+        slots,
+        last,
+        last,
+        k,
+        k,
+    );
 }

@@ -25,7 +25,8 @@ const FEW_ROWS: usize = 4096;
 
 const MANY_ROWS: usize = 49152;
 
-// Learns the entries in their order.
+// Learns the entries that the root reaches, in their order; the place of each set is the number of node
+// entries before it.
 fn learn_all(
     p: &[u8],
     table: &[u8],
@@ -44,11 +45,15 @@ fn learn_all(
     let slots = slot_count(rows.len(), n);
     let count = p[5];
     let mut place = 0;
-    let mut k = 0;
-    while k < count {
-        learn(p, table, alike, area, rows, marks, n, slots, last, k, place);
+    let mut next = 0;
+    while next < count {
+        let k = next;
+        let at = place;
         place += one_node(p, k);
-        k += 1;
+        next += 1;
+        if last[k as usize] != 0 {
+            learn(p, table, alike, area, rows, marks, n, slots, last, k, at);
+        }
     }
 }
 

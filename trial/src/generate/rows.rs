@@ -284,6 +284,7 @@ mod tests {
                 &format!("const FEW_ROWS: usize = {FEW};"),
                 &format!("const MANY_ROWS: usize = {MANY};"),
                 "path_count(p, &last) as usize + 1",
+                "if last[k as usize] != 0 {\n            learn(",
                 "(slots * (n as usize)) <= FEW_ROWS",
             ],
         );
@@ -298,8 +299,7 @@ mod tests {
                 "if sort_at(p, j).is_node() | (is_held(marks, j) | (uses[j as usize] == 0)) {\n        return;",
                 "uses_again(p, marks, last, k, &mut uses);\n    let mut j = 0;\n    while j < k {",
                 "if paths_held(p, marks, k) {\n        return;\n    }\n    learn_needed(",
-                "bring_back(p, table, alike, area, rows, marks, n, slots, last, k);\n    learn_entry(",
-                "if sort_at(p, k).is_node() {\n        learn_node(",
+                "bring_back(p, table, alike, area, rows, marks, n, slots, last, k);\n    if sort_at(p, k).is_node() {",
                 "        last,\n        last,\n        k,\n        k,\n",
             ],
         );
