@@ -68,7 +68,7 @@ fn run(
     last: &[u8; USES_BYTES],
 ) -> NodeSet
     requires { ⌜ Lent (now p) (now table) (now alike) n ⌝ }
-    requires { ⌜ areaBytes (now p) ≤ length (now area) ⌝ }
+    requires { ⌜ length (now area) ≡ areaBytes (now p) ⌝ }
     requires { ⌜ tableBytes (2 * n) ≤ length (now rows) ⌝ }
     ensures { λ r. ⌜ Evaluates (now (p .entry)) (now (table .entry)) (now (alike .entry)) n (countOf (now (p .entry)) - 1) r ⌝ }
 {
@@ -87,7 +87,7 @@ fn run_few(
     last: &[u8; USES_BYTES],
 ) -> NodeSet
     requires { ⌜ Lent (now p) (now table) (now alike) n ⌝ }
-    requires { ⌜ areaBytes (now p) ≤ length (now area) ⌝ }
+    requires { ⌜ length (now area) ≡ areaBytes (now p) ⌝ }
     ensures { λ r. ⌜ Evaluates (now (p .entry)) (now (table .entry)) (now (alike .entry)) n (countOf (now (p .entry)) - 1) r ⌝ }
 {
     let mut rows = [0u8; FEW_ROWS];
@@ -103,33 +103,43 @@ fn run_many(
     last: &[u8; USES_BYTES],
 ) -> NodeSet
     requires { ⌜ Lent (now p) (now table) (now alike) n ⌝ }
-    requires { ⌜ areaBytes (now p) ≤ length (now area) ⌝ }
+    requires { ⌜ length (now area) ≡ areaBytes (now p) ⌝ }
     ensures { λ r. ⌜ Evaluates (now (p .entry)) (now (table .entry)) (now (alike .entry)) n (countOf (now (p .entry)) - 1) r ⌝ }
 {
     let mut rows = [0u8; MANY_ROWS];
     run(p, table, alike, area, &mut rows, n, last)
 }
 
-// The same, by as many rows as are worth their clearing.
+// Whether the rows of so many paths, and those of the end of path, are few.
+fn are_few(paths: u8, n: u8) -> bool {
+    NodeSet::BYTES * ((paths as usize + 1) * (n as usize)) <= FEW_ROWS
+}
+
+// The same, by as many rows as are worth their clearing. The paths that the root reaches are counted only
+// where the rows of all paths aren't few.
 fn run_sized(p: &[u8], table: &[u8], alike: &[u8], area: &mut [u8], n: u8) -> NodeSet
     requires { ⌜ Lent (now p) (now table) (now alike) n ⌝ }
-    requires { ⌜ areaBytes (now p) ≤ length (now area) ⌝ }
+    requires { ⌜ length (now area) ≡ areaBytes (now p) ⌝ }
     ensures { λ r. ⌜ Evaluates (now (p .entry)) (now (table .entry)) (now (alike .entry)) n (countOf (now (p .entry)) - 1) r ⌝ }
 {
     let mut last = [0u8; USES_BYTES];
     last_uses(p, &mut last);
-    let slots = path_count(p, &last) as usize + 1;
-    if NodeSet::BYTES * (slots * (n as usize)) <= FEW_ROWS {
+    let nodes = area.len() / NodeSet::BYTES;
+    if are_few(p[5] - (nodes as u8), n) {
+        return run_few(p, table, alike, area, n, &last);
+    }
+    if are_few(path_count(p, &last), n) {
         return run_few(p, table, alike, area, n, &last);
     }
     run_many(p, table, alike, area, n, &last)
 }
 
 // The set of the nodes at which the root of a pattern that was read holds, in the data model of n nodes
-// that the tables stand for. The area is left zero.
+// that the tables stand for. The area, which has room for the sets of the node entries and no more, is left
+// zero.
 pub fn root_nodes(p: &[u8], table: &[u8], alike: &[u8], area: &mut [u8], n: u8) -> NodeSet
     requires { ⌜ Lent (now p) (now table) (now alike) n ⌝ }
-    requires { ⌜ areaBytes (now p) ≤ length (now area) ⌝ }
+    requires { ⌜ length (now area) ≡ areaBytes (now p) ⌝ }
     ensures root { λ r. ⌜ RootNodes (now (p .entry)) (now (table .entry)) (now (alike .entry)) n r ⌝ }
     ensures area { λ _. ⌜ now (area .exit) ≡ replicate (length (now (area .entry))) 0 ⌝ }
 {

@@ -12,7 +12,7 @@ use relations::rows::TABLE_BYTES;
 pub use successors::fill_successors;
 use values::tabulate_values;
 ghost use mathlib.Core.Path.{_≡_};
-ghost use Prim.Native.Nat.{ℕ, _≤_};
+ghost use Prim.Native.Nat.{ℕ};
 ghost use lib.ListN.{length, replicate};
 ghost use Rattle.nodeset.specs.Set.{has};
 ghost use Rattle.pattern.specs.Checks.Finding.{found};
@@ -23,12 +23,12 @@ ghost use Rattle.model_records.specs.Contents.{NamesListed, modelFrom};
 ghost use Rattle.model_records.specs.Valid.{ValidModel};
 
 // The set of the nodes of the model of a file at which the root of a pattern that was read, and whose
-// names the file lists, holds. The work slice is left zero.
+// names the file lists, holds. The work slice, of the bytes of the sets of its node entries, is left zero.
 pub fn root_nodes(p: &[u8], d: &[u8], work: &mut [u8]) -> NodeSet
     requires { ⌜ readingOf (now p) ≡ found (countOf (now p)) ⌝ }
     requires { ⌜ ValidModel (now d) ⌝ }
     requires { ⌜ NamesListed (now p) (now d) ⌝ }
-    requires { ⌜ areaBytes (now p) ≤ length (now work) ⌝ }
+    requires { ⌜ length (now work) ≡ areaBytes (now p) ⌝ }
     ensures nodes { λ r. ⌜ ((u : ℕ) → has r u ≡ rootHolds (now (p .entry)) (modelFrom (now (d .entry))) u) ⌝ }
     ensures work { λ _. ⌜ now (work .exit) ≡ replicate (length (now (work .entry))) 0 ⌝ }
 {

@@ -283,9 +283,9 @@ mod tests {
             &[
                 &format!("const FEW_ROWS: usize = {FEW};"),
                 &format!("const MANY_ROWS: usize = {MANY};"),
-                "path_count(p, &last) as usize + 1",
+                "are_few(path_count(p, &last), n)",
                 "if last[k as usize] != 0 {\n            learn(",
-                "(slots * (n as usize)) <= FEW_ROWS",
+                "((paths as usize + 1) * (n as usize)) <= FEW_ROWS",
             ],
         );
         let learning = include_str!("../../../crates/learning/src/learn.rt");

@@ -3,7 +3,6 @@
 use borrow.Author.Needs.{needs}
 use mathlib.Core.Path.{_≡_, refl, sym, _∙_, ap}
 use Prim.Native.Nat.{ℕ}
-use native.Mathlib.Nat.{le-refl}
 use lib.ListN.{length, take}
 use Rattle.wire.specs.Cleared.{cleared, front-length, cleared-front}
 use Rattle.pattern.specs.Checks.Finding.{found, passes}
@@ -81,7 +80,7 @@ slice-aggregate-root-nodes c = sym (front c)
 root-nodes-requires : tie.Need-root-nodes-requires
 root-nodes-requires c κs =
     let ok = allowed (c .before) in
-    (valid-read _ _ (ok .0), (ok .2, (ok .4, rw (front c, need-is (c .before .before .before .before .before)) (le-refl _))))
+    (valid-read _ _ (ok .0), (ok .2, (ok .4, front c ∙ need-is (c .before .before .before .before .before))))
 
 judged-requires : tie.Need-judged-requires
 judged-requires c κs = search needs

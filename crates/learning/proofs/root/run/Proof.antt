@@ -16,7 +16,7 @@ learn-all-requires c κs = let f = c .before .before .before .before .before in
     let long = f .fill-end .kept .0 in (
       s .pre .0,
       (
-        learned-first (s .pre .0) (s .args .area .now) _ 512 (search needs) (s .pre .1 .0) (omega (arith, long, s .pre .1 .1)) (f .fill-end .ensures .rows),
+        learned-first (s .pre .0) (s .args .area .now) _ 512 (search needs) (omega (arith, s .pre .1 .0)) (omega (arith, long, s .pre .1 .1)) (f .fill-end .ensures .rows),
         rw long (s .pre .1 .1),
       ),
     )
