@@ -1,4 +1,4 @@
-//! Document 01, with the requests of document 02 that have landed (Jobs 1, 3, 4 and 5; Job 2 changes no answer),
+//! Document 01, with the requests of document 02 that have landed (Jobs 1 and 3 to 6; Job 2 changes no answer),
 //! implemented once more from their words alone, to be compared with the proved library.
 
 mod bytes;

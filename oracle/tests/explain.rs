@@ -9,9 +9,9 @@ use std::path::{Path, PathBuf};
 use std::process::{Command, Output};
 
 const NOTATION: &str = "\
-Notation: pN property, nN name, !f not, (f & g) both, <aN>f after on axis N, [x = y on cN] same and
-[x != y on cN] differ on channel N; paths: /aN step, @nN jump, ?f test, {x | y} fork, . end of path;
-eN the entry of that number
+Notation: pN property, nN name, !f not, (f & g) both, (f | g) either, <aN>f after on axis N,
+[x = y on cN] same and [x != y on cN] differ on channel N; paths: /aN step, @nN jump, ?f test,
+{x | y} fork, . end of path; eN the entry of that number
 ";
 
 /// What is said after the pattern and its notation.
@@ -186,6 +186,15 @@ fn refused_patterns() {
          Entry 1 is 5,3,200,0. Kind 5 (after) uses x axis, y node entry.\n"
     );
     assert_eq!(
+        explain(&pattern(&[[1, 0, 0, 0], [12, 0, 0, 1]]), &[]),
+        "Finding: refused 5 1, entry 1: a field is out of range, or an unused one isn't zero.\n\
+         Entry 1 is 12,0,0,1. Kind 12 (either) uses x node entry, y node entry.\n"
+    );
+    assert_eq!(
+        explain(&pattern(&[[1, 0, 0, 0], [13, 0, 255, 0]]), &[]),
+        "Finding: refused 4 1, entry 1: its kind isn't one of 1 to 12.\nEntry 1 is 13,0,255,0.\n"
+    );
+    assert_eq!(
         explain(&pattern(&[[1, 7, 0, 0], [1, 7, 0, 0]]), &[]),
         "Finding: refused 7 1, entry 1: it equals an earlier entry.\n\
          Entry 1 is 1,7,0,0. Kind 1 (property) uses x property. Entry 0 is the same.\n"
@@ -323,7 +332,7 @@ Rule 21 (clash of signs) says: P and Q alike but for sign: clash.
     assert!(text.ends_with(expected), "{text}");
     assert_eq!(
         finding(&a, &tableau(0, &[(200, 1, 2, 3)])),
-        "Finding: refused 19 0, step 0: there is no such rule.\nThe step is rule 200, P 1, Q 2, argument 3.\n"
+        "Finding: refused 19 0, step 0: its rule isn't one of 1 to 25.\nThe step is rule 200, P 1, Q 2, argument 3.\n"
     );
     assert_eq!(
         finding(&a, &tableau(0, &[(2, 0, 0, 0), (5, 1, 0, 0)])),

@@ -38,6 +38,29 @@ fn nodes() {
 }
 
 #[test]
+fn either_holds_where_at_least_one_part_does() {
+    let (p0, p31, name_7) = ([1, 0, 0, 0], [1, 31, 0, 0], [2, 7, 0, 0]);
+    assert_eq!(holds(&[p0, p31, [12, 0, 1, 0]]), [1, 3]);
+    assert_eq!(holds(&[p0, p31, [12, 1, 0, 0]]), [1, 3]);
+    assert_eq!(holds(&[p0, [12, 0, 0, 0]]), [1], "both parts one entry");
+    assert_eq!(holds(&[p0, [3, 0, 0, 0], [12, 0, 1, 0]]), [0, 1, 2, 3]);
+    assert_eq!(holds(&[p0, p31, [12, 0, 1, 0], [3, 2, 0, 0]]), [0, 2]);
+    assert_eq!(holds(&[p0, p31, [12, 0, 1, 0], name_7, [12, 3, 2, 0]]), [1, 2, 3]);
+    assert_eq!(holds(&[p0, name_7, [3, 0, 0, 0], [12, 1, 2, 0]]), [0, 2, 3], "both parts hold at node 2");
+    assert_eq!(holds(&[[1, 1, 0, 0], [1, 2, 0, 0], [12, 0, 1, 0]]), [] as [usize; 0]);
+}
+
+#[test]
+fn either_below_other_entries() {
+    let (p0, name_7, either) = ([1, 0, 0, 0], [2, 7, 0, 0], [12, 0, 1, 0]);
+    assert_eq!(holds(&[p0, name_7, either, [5, 1, 2, 0]]), [0]);
+    let tested = [10, 2, 255, 0];
+    assert_eq!(holds(&[p0, name_7, either, tested, [6, 2, 3, 255]]), [1, 2], "a test of it");
+    assert_eq!(holds(&[p0, name_7, either, tested, [8, 1, 3, 0], [6, 2, 4, 255]]), [0], "node 2 passes");
+    assert_eq!(holds(&[p0, name_7, either, tested, [8, 1, 3, 0], [7, 2, 4, 255]]), [0], "and so does node 1");
+}
+
+#[test]
 fn paths() {
     let none = [] as [usize; 0];
     let step = [8, 1, 255, 0];

@@ -58,6 +58,16 @@ fn one_node_entry_wants_8_bytes() {
 }
 
 #[test]
+fn either_wants_8_bytes_like_any_node_entry() {
+    check(&[[1, 0, 0, 0], [12, 0, 0, 0]], 16, "met 0 2");
+    check(
+        &[[2, 9, 0, 0], [8, 0, 255, 0], [6, 0, 255, 1], [12, 0, 2, 0], [11, 1, 1, 0], [3, 3, 0, 0]],
+        32,
+        "unmet",
+    );
+}
+
+#[test]
 fn paths_want_none() {
     check(&ENTRIES_G, 24, "unmet");
     check(&ENTRIES_H, 40, "met 0 2");
@@ -87,7 +97,7 @@ fn a_pattern_that_is_refused_wants_none() {
         (vec![], "refused 1 0"),
         (versioned, "refused 2 0"),
         (pattern(&[]), "refused 3 0"),
-        (pattern(&[[1, 0, 0, 0], [12, 0, 0, 0]]), "refused 4 1"),
+        (pattern(&[[1, 0, 0, 0], [13, 0, 255, 0]]), "refused 4 1"),
         (pattern(&[[1, 0, 0, 0], [1, 32, 0, 0]]), "refused 5 1"),
         (pattern(&[[1, 0, 0, 0], [3, 1, 0, 0]]), "refused 6 1"),
         (pattern(&[[1, 0, 0, 0], [1, 0, 0, 0]]), "refused 7 1"),

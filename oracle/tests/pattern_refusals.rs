@@ -33,7 +33,7 @@ fn ending_in(entry: [u8; 4]) -> String {
 
 #[test]
 fn kinds() {
-    for entry in [[0, 0, 0, 0], [12, 0, 0, 0], [13, 0, 0, 0], [255, 9, 9, 9]] {
+    for entry in [[0, 0, 0, 0], [13, 0, 0, 0], [13, 0, 255, 0], [14, 0, 0, 0], [255, 9, 9, 9]] {
         assert_eq!(ending_in(entry), "refused 4 4", "{entry:?}");
     }
 }
@@ -74,6 +74,38 @@ fn repeats_path_roots_and_good_roots() {
     for entry in [&nodes[..], &[[6, 3, 255, 255], [7, 3, 2, 3]]].concat() {
         assert_eq!(ending_in(entry), "read 5", "{entry:?}");
     }
+}
+
+/// Both parts are earlier nodes, perhaps the same one, and z is zero.
+#[test]
+fn parts_of_either() {
+    for entry in [[12, 0, 1, 0], [12, 1, 0, 0], [12, 1, 1, 0]] {
+        assert_eq!(ending_in(entry), "read 5", "{entry:?}");
+    }
+    for entry in [[12, 0, 1, 1], [12, 1, 1, 255], [12, 2, 9, 4]] {
+        assert_eq!(ending_in(entry), "refused 5 4", "{entry:?}");
+    }
+    for entry in
+        [[12, 2, 0, 0], [12, 0, 3, 0], [12, 4, 0, 0], [12, 0, 5, 0], [12, 255, 0, 0], [12, 0, 255, 0]]
+    {
+        assert_eq!(ending_in(entry), "refused 6 4", "{entry:?}");
+    }
+}
+
+/// Entries that refer to an either, entry 2.
+#[test]
+fn either_is_a_node() {
+    let then = |entry: [u8; 4]| read_line(&pattern(&[[1, 0, 0, 0], [1, 1, 0, 0], [12, 0, 1, 0], entry]));
+    for entry in [[3, 2, 0, 0], [4, 2, 0, 0], [5, 0, 2, 0], [12, 2, 2, 0]] {
+        assert_eq!(then(entry), "read 4", "{entry:?}");
+    }
+    for entry in [[6, 0, 2, 255], [7, 0, 255, 2], [8, 0, 2, 0], [9, 0, 2, 0], [10, 0, 2, 0], [11, 255, 2, 0]]
+    {
+        assert_eq!(then(entry), "refused 6 3", "{entry:?}");
+    }
+    assert_eq!(then([10, 2, 255, 0]), "refused 8 3", "a test of it is a path");
+    assert_eq!(then([12, 0, 1, 0]), "refused 7 3");
+    assert_eq!(then([12, 1, 0, 0]), "read 4", "its parts exchanged are another entry");
 }
 
 #[test]

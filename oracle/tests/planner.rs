@@ -10,6 +10,7 @@ use oracle::model::{self, Model};
 use oracle::pattern::{self, Comparison, Entry, Pattern};
 use oracle::planner::builder::{Builder, END, MAX_ENTRIES};
 use oracle::planner::{Effort, Plan, close, impossible, meet, plan};
+use oracle::tableau::rules::LAST_RULE;
 use oracle::tableau::{self, Tableau};
 
 /// How many seeds in a row have every mixture of the habits that a seed settles.
@@ -64,21 +65,21 @@ fn closing_takes_every_rule() {
             used.extend(tableau.steps.iter().map(|step| step.rule));
         }
     }
-    assert_eq!(used, BTreeSet::from_iter(1..=23));
+    assert_eq!(used, BTreeSet::from_iter(1..=LAST_RULE));
 }
 
-/// One or the other of two patterns that can't occur.
+/// One or the other of two patterns that can't occur, by either and without it.
 #[test]
 fn either_of_two_impossible_patterns_closes() {
     let patterns = impossible::patterns();
     for (pattern, other) in patterns.iter().zip(patterns.iter().skip(1)) {
-        let mut builder = Builder::default();
-        let (first, second) = (builder.graft(pattern), builder.graft(other));
-        let (not_first, not_second) = (builder.not(first), builder.not(second));
-        let neither = builder.both(not_first, not_second);
-        let root = builder.not(neither);
-        let either = builder.finish(root).expect("few entries");
-        check_plans(&either, false);
+        for either in [Builder::either, Builder::not_neither] {
+            let mut builder = Builder::default();
+            let (first, second) = (builder.graft(pattern), builder.graft(other));
+            let root = either(&mut builder, first, second);
+            let either = builder.finish(root).expect("few entries");
+            check_plans(&either, false);
+        }
     }
 }
 

@@ -1,4 +1,4 @@
-//! What each rule from 1 to 23 concludes, and which lines and arguments don't fit it.
+//! What each rule from 1 to 25 concludes, and which lines and arguments don't fit it.
 
 mod common;
 
@@ -22,6 +22,7 @@ const TEST: Path = Some(8);
 const FORK: Path = Some(9);
 const SAME: usize = 10;
 const DIFFER: usize = 11;
+const EITHER: usize = 12;
 
 /// One entry of each kind; the constants above are their numbers.
 fn every_kind() -> Pattern {
@@ -38,6 +39,7 @@ fn every_kind() -> Pattern {
         [11, 6, 7, 0],
         [6, 3, 6, 7],
         [7, 3, 255, 8],
+        [12, 0, 1, 0],
     ];
     parse(&pattern(&entries)).unwrap()
 }
@@ -93,6 +95,26 @@ fn rules_of_entries() {
     assert_eq!(applied(4, has(1, NAME_9), None, 0), Ok(One(is(1, 9))));
     assert_eq!(applied(4, lacks(1, NAME_9), None, 0), Ok(One(is_not(1, 9))));
     assert_eq!(applied(4, has(1, P), None, 0), MISFIT);
+}
+
+#[test]
+fn rules_of_either() {
+    assert_eq!(applied(24, has(1, EITHER), None, 0), Ok(Fork(has(1, P), has(1, Q))));
+    assert_eq!(applied(24, lacks(1, EITHER), None, 0), MISFIT);
+    assert_eq!(applied(25, lacks(1, EITHER), None, 0), Ok(Two(lacks(1, P), lacks(1, Q))));
+    assert_eq!(applied(25, has(1, EITHER), None, 0), MISFIT);
+    for rule in [24, 25] {
+        for p in [has(1, BOTH), lacks(1, BOTH), has(1, NOT), held((1, FORK), Same, (1, END)), is(1, 2)] {
+            assert_eq!(applied(rule, p, None, 0), MISFIT, "rule {rule}, {p:?}");
+        }
+    }
+    for rule in (1..=7).filter(|&rule| rule != 6) {
+        let argument = if rule == 5 { 7 } else { 0 };
+        assert_eq!(applied(rule, has(1, EITHER), None, argument), MISFIT, "rule {rule}");
+        assert_eq!(applied(rule, lacks(1, EITHER), None, argument), MISFIT, "rule {rule}");
+    }
+    assert_eq!(applied(21, has(1, EITHER), Some(lacks(1, EITHER)), 0), Ok(Clash), "whole, by its sign");
+    assert_eq!(applied(19, is(1, 2), Some(lacks(1, EITHER)), 0), Ok(One(lacks(2, EITHER))));
 }
 
 #[test]

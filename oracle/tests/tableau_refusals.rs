@@ -55,7 +55,8 @@ fn start_name_used_in_the_pattern() {
 fn steps() {
     let cases: &[(Step, &str)] = &[
         ((0, 9, 9, 9), "refused 19 1"),
-        ((24, 0, 0, 0), "refused 19 1"),
+        ((26, 0, 0, 0), "refused 19 1"),
+        ((27, 0, 0, 0), "refused 19 1"),
         ((255, 0, 0, 0), "refused 19 1"),
         ((1, 3, 0, 0), "refused 20 1"),
         ((21, 0, 3, 0), "refused 20 1"),
@@ -69,12 +70,20 @@ fn steps() {
         ((22, 0, 0, 1), "refused 20 1"),
         ((23, 0, 1, 0), "refused 20 1"),
         ((23, 0, 0, 1), "refused 20 1"),
+        ((24, 3, 0, 0), "refused 20 1"),
+        ((24, 0, 1, 0), "refused 20 1"),
+        ((24, 0, 0, 1), "refused 20 1"),
+        ((25, 3, 0, 0), "refused 20 1"),
+        ((25, 0, 1, 0), "refused 20 1"),
+        ((25, 0, 0, 1), "refused 20 1"),
         ((1, 0, 0, 0), "refused 21 1"),
         ((5, 1, 0, 7), "refused 21 1"),
         ((5, 1, 0, 6), "refused 21 1"),
         ((5, 0, 0, 128), "refused 21 1"),
         ((5, 0, 0, 255), "refused 21 1"),
         ((21, 1, 1, 0), "refused 21 1"),
+        ((24, 0, 0, 0), "refused 21 1"),
+        ((25, 1, 0, 0), "refused 21 1"),
         ((5, 0, 0, 3), "refused 22 1"),
         ((5, 0, 0, 4), "refused 22 1"),
         ((5, 0, 0, 5), "refused 22 1"),
@@ -152,6 +161,45 @@ fn too_many_lines_come_before_too_many_waiting() {
     let waiting = repeated(&FORKING_BEGIN, FORK, 64, &[]);
     let filled = repeated(&waiting, (1, 2, 0, 0), 1024 - 68, &[FORK]);
     assert_eq!(tableau_line(&pattern(&FORKING), &tableau(0, &filled)), "refused 23 1022");
+}
+
+/// Either of p and q, and neither: has not p, has not q, lacks p, lacks q are lines 3 to 6.
+const EITHER: [[u8; 4]; 7] =
+    [[1, 0, 0, 0], [1, 1, 0, 0], [12, 0, 1, 0], [3, 0, 0, 0], [3, 1, 0, 0], [4, 3, 4, 0], [4, 2, 5, 0]];
+const EITHER_BEGIN: [Step; 4] = [(2, 0, 0, 0), (2, 2, 0, 0), (1, 3, 0, 0), (1, 4, 0, 0)];
+const RULE_24: Step = (24, 1, 0, 0);
+
+#[test]
+fn rule_24_forks_with_the_first_part_on_the_left() {
+    let then = |end: &[Step]| {
+        tableau_line(&pattern(&EITHER), &tableau(0, &[&EITHER_BEGIN[..], &[RULE_24], end].concat()))
+    };
+    assert_eq!(then(&[(21, 7, 5, 0), (21, 7, 6, 0)]), "closed 7 2 1 8");
+    assert_eq!(then(&[(21, 7, 6, 0), (21, 7, 5, 0)]), "refused 21 5", "the sides exchanged");
+    assert_eq!(then(&[(21, 7, 5, 0)]), "refused 26 6", "the right side is still to come");
+    assert_eq!(then(&[(21, 7, 5, 0), (21, 7, 5, 0)]), "refused 21 6");
+}
+
+#[test]
+fn rule_24_keeps_the_limits_of_a_fork() {
+    let line = |steps: &[Step]| tableau_line(&pattern(&EITHER), &tableau(0, steps));
+    let clashes = repeated(&[], (21, 7, 5, 0), 64, &[(21, 7, 6, 0)]);
+    assert_eq!(line(&repeated(&EITHER_BEGIN, RULE_24, 64, &clashes)), "closed 133 65 64 71");
+    assert_eq!(line(&repeated(&EITHER_BEGIN, RULE_24, 65, &[])), "refused 24 68");
+    let full = repeated(&EITHER_BEGIN, (1, 3, 0, 0), 1023 - 7, &[RULE_24]);
+    assert_eq!(line(&full), "refused 26 1021", "a side has one line more");
+    assert_eq!(line(&[&full[..], &[RULE_24]].concat()), "refused 23 1021");
+}
+
+#[test]
+fn rule_25_adds_two_lines() {
+    let denied = [[1, 0, 0, 0], [1, 1, 0, 0], [12, 0, 1, 0], [3, 2, 0, 0], [4, 1, 3, 0]];
+    let line = |steps: &[Step]| tableau_line(&pattern(&denied), &tableau(0, steps));
+    let begin = [(2, 0, 0, 0), (1, 2, 0, 0)];
+    assert_eq!(line(&[begin[0], begin[1], (25, 3, 0, 0), (21, 1, 5, 0)]), "closed 4 1 0 6");
+    assert_eq!(line(&[begin[0], begin[1], (25, 3, 0, 0), (21, 1, 4, 0)]), "refused 21 3", "the first part");
+    assert_eq!(line(&repeated(&begin, (25, 3, 0, 0), 510, &[])), "refused 26 512");
+    assert_eq!(line(&repeated(&begin, (25, 3, 0, 0), 511, &[])), "refused 23 512");
 }
 
 #[test]

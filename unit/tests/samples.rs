@@ -73,6 +73,7 @@ fn the_area_of_a_pattern_goes_by_its_node_entries() {
     assert_eq!(wanted(&[[1, 0, 0, 0]]), 8);
     assert_eq!(wanted(&[[8, 0, 255, 0], [8, 1, 255, 0], [6, 0, 0, 1]]), 8);
     assert_eq!(wanted(&[[1, 0, 0, 0], [8, 0, 255, 0], [1, 1, 0, 0], [1, 2, 0, 0]]), 24);
+    assert_eq!(wanted(&[[1, 0, 0, 0], [8, 0, 255, 0], [12, 0, 0, 0]]), 16);
     let nots: Vec<[u8; 4]> = (0..254).map(|entry| [3, entry, 0, 0]).collect();
     assert_eq!(wanted(&[&[[1, 0, 0, 0]], &nots[..]].concat()), MODEL_AREA);
     assert_eq!(unit::model_area(b""), 0);

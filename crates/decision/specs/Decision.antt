@@ -1,7 +1,7 @@
 -- Whether an expression holds in a finite model, as a test that computes: the clauses of `Logic.Semantics` in their order, with the nodes of
 -- the model gone through for "there is some". The theorems say that the test and the meaning agree.
 -- Assumes nothing.
-use mathlib.Core.Path.{_≡_, refl, ap}
+use mathlib.Core.Path.{_≡_, refl, sym, _∙_, ap}
 use mathlib.Core.Bool.{Bool, true, false, not, _&&_, _||_, or-true, false≢true}
 use mathlib.Core.Logic.{_↔_, Iff·rfl, _⊎_, inl, inr}
 use Prim.Native.Nat.{ℕ}
@@ -35,6 +35,8 @@ unfoldable mutual
   holdsTest F (NExp.name i) u = eqb (F .named i) u
   holdsTest F (NExp.not φ) u = not (holdsTest F φ u)
   holdsTest F (NExp.both φ ψ) u = holdsTest F φ u && holdsTest F ψ u
+  -- 02: "it holds where at least one part holds"
+  holdsTest F (NExp.either φ ψ) u = holdsTest F φ u || holdsTest F ψ u
   -- 01: "After holds where some successor has φ."
   holdsTest F (NExp.after a φ) u = someBelow (F .size) (λ v. F .edge a u v && holdsTest F φ v)
   -- 01: "Same (differ) holds at u if some end of α and some end of β from u have equal (unequal) values on the channel."
@@ -107,6 +109,7 @@ module _ (F : Finite) (ok : Named F) where
     holds-decided (NExp.name i) x = node-decided F (namingOf F ok i) x
     holds-decided (NExp.not φ) x = not-decided _ (holds-decided φ x)
     holds-decided (NExp.both φ ψ) x = both-decided _ _ (holds-decided φ x) (holds-decided ψ x)
+    holds-decided (NExp.either φ ψ) x = either-decided _ _ (holds-decided φ x) (holds-decided ψ x)
     holds-decided (NExp.after a φ) x =
         some-decided F (λ v. F .edge a (x .0) v && holdsTest F φ v) (λ y. both-decided _ _ Iff·rfl (holds-decided φ y))
     holds-decided (NExp.compare c e α β) x =
@@ -114,3 +117,22 @@ module _ (F : Finite) (ok : Named F) where
         = λ v w. leadsTest F α (x .0) v && leadsTest F β (x .0) w && compared c (eqb (F .value e v) (F .value e w)) in
         some-decided F (λ v. someBelow (F .size) (λ w. ends v w)) (λ y. some-decided F (λ w. ends (y .0) w)
         (λ z. all-decided _ _ _ (leads-decided α x y) (leads-decided β x z) (compared-decided F c e y z)))
+
+  -- 000 has φ ∨ ψ "defined as usual", by ¬ and ∧: what either means in a finite model
+  pub either-usual : (φ ψ : NExp) (x : NodeOf F)
+      → Holds (modelOf F) (namingOf F ok) (NExp.either φ ψ) x ↔ Holds (modelOf F) (namingOf F ok) (NExp.not (NExp.both (NExp.not φ) (NExp.not ψ))) x
+  either-usual φ ψ x = (there, λ n. back n (holdsTest F φ (x .0)) (holdsTest F ψ (x .0)) refl refl)
+    where
+      there : Holds (modelOf F) (namingOf F ok) (NExp.either φ ψ) x
+          → Holds (modelOf F) (namingOf F ok) (NExp.not (NExp.both (NExp.not φ) (NExp.not ψ))) x
+      there (inl a) n = n .0 a
+      there (inr b) n = n .1 b
+
+      fails : (χ : NExp) → holdsTest F χ (x .0) ≡ false → Holds (modelOf F) (namingOf F ok) χ x → ⊥
+      fails χ e h = false≢true (sym e ∙ holds-decided χ x .1 h)
+
+      back : Holds (modelOf F) (namingOf F ok) (NExp.not (NExp.both (NExp.not φ) (NExp.not ψ))) x → (a b : Bool)
+          → holdsTest F φ (x .0) ≡ a → holdsTest F ψ (x .0) ≡ b → Holds (modelOf F) (namingOf F ok) (NExp.either φ ψ) x
+      back n true b e f = inl (holds-decided φ x .0 e)
+      back n false true e f = inr (holds-decided ψ x .0 f)
+      back n false false e f = absurd (n (fails φ e, fails ψ f))

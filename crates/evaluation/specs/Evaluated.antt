@@ -9,7 +9,7 @@ use native.Mathlib.Omega.{arith}
 use native.Mathlib.Nat.{lt-of-lt-of-le}
 use Rattle.nodeset.specs.declared.NodeSet.{NodeSet}
 use Rattle.nodeset.specs.Members.{HasExactly}
-use Rattle.nodeset.specs.Set.{has, emptySet, insertIf, meet, minus}
+use Rattle.nodeset.specs.Set.{has, emptySet, insertIf, union, meet, minus}
 use Rattle.nodeset.specs.Stored.{setAt}
 use Rattle.pattern.specs.declared.types.Comparison.{Comparison}
 use Rattle.pattern.specs.declared.table.Sort.{Sort}
@@ -27,7 +27,7 @@ use Rattle.relations.specs.Values.{Pair, PairFound}
 use Rattle.path_rows.specs.Paths.{RowsCompared}
 use Rattle.evaluation.specs.Standing.{Lent, Standing, Evaluates, Ends}
 use Rattle.evaluation.specs.Entries.{refers-as, within-as}
-use Rattle.evaluation.specs.Nodes.{ComparesIn, channel-rows, pair-compares-in, ends-inside, nodes-property, nodes-name, nodes-not, nodes-both, nodes-after, nodes-compare}
+use Rattle.evaluation.specs.Nodes.{ComparesIn, channel-rows, pair-compares-in, ends-inside, nodes-property, nodes-name, nodes-not, nodes-both, nodes-either, nodes-after, nodes-compare}
 
 -- node entry k, read as e, of this kind
 pub record NodeEntry (bs table alike : List ℕ) (n k : ℕ) (e : Entry) (kind : NodeKind) : Type 0 where
@@ -73,6 +73,9 @@ module _ {bs table alike : List ℕ} {n k : ℕ} {e : Entry} {kind : NodeKind} (
   pub both-refers : kind ≡ NodeKind.Both → EarlierNode bs k (e .x) × EarlierNode bs k (e .y)
   both-refers is = let r = refers-as ok k (q .within) Kind.Both (kind-is NodeKind.Both is) in rw (q .same) (r .0, r .1)
 
+  pub either-refers : kind ≡ NodeKind.Either → EarlierNode bs k (e .x) × EarlierNode bs k (e .y)
+  either-refers is = let r = refers-as ok k (q .within) Kind.Either (kind-is NodeKind.Either is) in rw (q .same) (r .0, r .1)
+
   pub after-refers : kind ≡ NodeKind.After → EarlierNode bs k (e .y)
   after-refers is = rw (q .same) (refers-as ok k (q .within) Kind.After (kind-is NodeKind.After is) .1)
 
@@ -95,6 +98,11 @@ module _ {bs table alike : List ℕ} {n k : ℕ} {e : Entry} {kind : NodeKind} (
       → Evaluates bs table alike n (e .y) t → Evaluates bs table alike n k (meet s t)
   evaluates-both s t is h g w =
       nodes-both (w .model) (w .named) ok k (q .within) table (w .tabled) s t (kind-is NodeKind.Both is) ((rw (q .same) at h) w) ((rw (q .same) at g) w)
+
+  pub evaluates-either : (s t : NodeSet) → kind ≡ NodeKind.Either → Evaluates bs table alike n (e .x) s
+      → Evaluates bs table alike n (e .y) t → Evaluates bs table alike n k (union s t)
+  evaluates-either s t is h g w =
+      nodes-either (w .model) (w .named) ok k (q .within) table (w .tabled) s t (kind-is NodeKind.Either is) ((rw (q .same) at h) w) ((rw (q .same) at g) w)
 
   pub evaluates-after : (s r : NodeSet) → kind ≡ NodeKind.After → Evaluates bs table alike n (e .y) s
       → HasExactly (Before table n (e .x) s) r → Evaluates bs table alike n k r

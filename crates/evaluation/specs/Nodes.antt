@@ -2,13 +2,13 @@
 -- Assumes nothing.
 use mathlib.Core.Path.{_≡_, refl, sym, _∙_, ap, subst}
 use mathlib.Core.Bool.{Bool, true, false, _&&_, not, false≢true}
-use mathlib.Core.Logic.{_↔_, Iff·trans}
+use mathlib.Core.Logic.{_↔_, Iff·trans, _⊎_, inl, inr}
 use mathlib.Core.List.{List}
 use Prim.Native.Nat.{ℕ, _<_}
 use borrow.Author.Tests.{not-true}
 use Rattle.nodeset.specs.declared.NodeSet.{NodeSet}
 use Rattle.nodeset.specs.Members.{HasExactly}
-use Rattle.nodeset.specs.Set.{has, meet, minus, has-meet, has-minus}
+use Rattle.nodeset.specs.Set.{has, union, meet, minus, has-meet, has-minus}
 use Rattle.nodeset.specs.Stored.{setAt}
 use Rattle.pattern.specs.declared.types.Comparison.{Comparison}
 use Rattle.pattern.specs.declared.table.Kind.{Kind}
@@ -19,6 +19,7 @@ use Rattle.pattern.specs.File.Valid.{Valid}
 use Rattle.pattern.specs.Logic.Semantics.{Compared}
 use Rattle.pattern.specs.Logic.Finite.{Finite, Named, NodeOf, node-same, modelOf}
 use Rattle.relations.specs.Tables.{IsSet, Inside, Uses, Tabled, AlikeOn, Before, successorsRow, propertyRow, nameRow, nodesRow, alikeRow}
+use Rattle.relations.specs.Members.{exactly-union}
 use Rattle.relations.specs.Values.{Matches, Pair}
 use Rattle.evaluation.specs.Standing.{Holding, Leading, Standing, Ends}
 use Rattle.evaluation.specs.Entries.{within-as, uses-first, uses-its-name, node-clause}
@@ -53,6 +54,17 @@ module _ (F : Finite) where
         (a .0, (a .1, again Q u (b .0) (a .0) (b .1))),
     λ h. rw (has-meet s t u, p u .1 (h .0, h .1 .0), q u .1 (h .0, h .1 .1)),
   )
+
+  set-union : (P Q : NodeOf F → Type 0) (s t : NodeSet) → IsSet F P s → IsSet F Q t → IsSet F (λ u. P u ⊎ Q u) (union s t)
+  set-union P Q s t p q u = (λ h. there (exactly-union s t u .0 h), λ h. exactly-union s t u .1 (back (h .0) (h .1)))
+    where
+      there : (has s u ≡ true) ⊎ (has t u ≡ true) → (l : u < F .size) × (P (u, l) ⊎ Q (u, l))
+      there (inl m) = let r = p u .0 m in (r .0, inl (r .1))
+      there (inr m) = let r = q u .0 m in (r .0, inr (r .1))
+
+      back : (l : u < F .size) → P (u, l) ⊎ Q (u, l) → (has s u ≡ true) ⊎ (has t u ≡ true)
+      back l (inl x) = inl (p u .1 (l, x))
+      back l (inr y) = inr (q u .1 (l, y))
 
   set-minus : (P : NodeOf F → Type 0) (all s : NodeSet) → IsSet F (λ u. Unit {0}) all → IsSet F P s → IsSet F (λ u. P u → ⊥) (minus all s)
   set-minus P all s a p u = (there, back)
@@ -125,6 +137,14 @@ module _ (F : Finite) (ok : Named F) {bs : List ℕ} {n : ℕ} (valid : Valid bs
       set-as F (Holding F ok bs k) (λ u. Holding F ok bs (entryAt bs k .x) u × Holding F ok bs (entryAt bs k .y) u) (meet s t)
       (λ u. node-clause valid k l Kind.Both kind F ok refl u)
       (set-meet F (Holding F ok bs (entryAt bs k .x)) (Holding F ok bs (entryAt bs k .y)) s t p q)
+
+  -- "it holds where at least one part holds"
+  pub nodes-either : (s t : NodeSet) → entryAt bs k .kind ≡ Kind.Either → IsSet F (Holding F ok bs (entryAt bs k .x)) s
+      → IsSet F (Holding F ok bs (entryAt bs k .y)) t → IsSet F (Holding F ok bs k) (union s t)
+  nodes-either s t kind p q =
+      set-as F (Holding F ok bs k) (λ u. Holding F ok bs (entryAt bs k .x) u ⊎ Holding F ok bs (entryAt bs k .y) u) (union s t)
+      (λ u. node-clause valid k l Kind.Either kind F ok refl u)
+      (set-union F (Holding F ok bs (entryAt bs k .x)) (Holding F ok bs (entryAt bs k .y)) s t p q)
 
   -- "After holds where some successor has φ."
   pub nodes-after : (s r : NodeSet) → entryAt bs k .kind ≡ Kind.After → IsSet F (Holding F ok bs (entryAt bs k .y)) s

@@ -83,9 +83,7 @@ fn compute(
     ensures { λ r. ⌜ Evaluates (now (p .entry)) (now (table .entry)) (now (alike .entry)) n k r ⌝ }
 {
     let e = Entry::at(p, k);
-    let kind = e.kind;
-    let node = node_kind(kind);
-    match node {
+    match node_kind(e) {
         NodeKind::Property => with_property(table, e.x),
         NodeKind::Name => with_name(table, e.x),
         NodeKind::Not => {
@@ -94,8 +92,11 @@ fn compute(
         }
         NodeKind::Both => {
             let s = evaluate(p, table, alike, area, rows, marks, n, e.x);
-            let t = evaluate(p, table, alike, area, rows, marks, n, e.y);
-            s.meet(t)
+            s.meet(evaluate(p, table, alike, area, rows, marks, n, e.y))
+        }
+        NodeKind::Either => {
+            let s = evaluate(p, table, alike, area, rows, marks, n, e.x);
+            s.union(evaluate(p, table, alike, area, rows, marks, n, e.y))
         }
         NodeKind::After => {
             let s = evaluate(p, table, alike, area, rows, marks, n, e.y);
@@ -203,9 +204,7 @@ fn sweep_entry(
         return;
     }
     let e = Entry::at(p, i);
-    let kind = e.kind;
-    let path = path_kind(kind);
-    match path {
+    match path_kind(e) {
         PathKind::Step => add(pending, e.y, image(table, e.x, s)),
         PathKind::Jump => add(pending, e.y, with_name(table, e.x)),
         PathKind::Test => {

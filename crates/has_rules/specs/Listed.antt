@@ -12,7 +12,7 @@ use Rattle.rules.specs.RuleLaws.{unlisted}
 
 -- listed last first
 abbrev pub hasRules : List ℕ
-hasRules = 21 ∷ 7 ∷ 6 ∷ 5 ∷ 4 ∷ 3 ∷ 2 ∷ 1 ∷ []
+hasRules = 25 ∷ 24 ∷ 21 ∷ 7 ∷ 6 ∷ 5 ∷ 4 ∷ 3 ∷ 2 ∷ 1 ∷ []
 
 -- a rule that isn't listed has no has/lacks line for P
 pub has-unfit : (bs : List ℕ) (h : HasLine) (Q : Line) (a k : ℕ) → NoneOf k hasRules

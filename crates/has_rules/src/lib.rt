@@ -1,5 +1,5 @@
-// Document 01's rules 1 to 7, of a has/lacks line P and the entry of its node, and rule 21 of such a
-// line.
+// Document 01's rules 1 to 7, of a has/lacks line P and the entry of its node, rule 21 of such a line,
+// and rules 24 and 25 of document 02's Job 6.
 use branch_lines::load;
 use lines::line::HasLine;
 use lines::line::Line;
@@ -35,10 +35,11 @@ ghost use lib.ListN.{length};
 ghost use Rattle.pattern.specs.File.Table.{sameKind};
 ghost use Rattle.pattern.specs.File.Entries.{HasEntry};
 ghost use Rattle.lines.specs.declared.line.Line.{Line};
+ghost use Rattle.lines.specs.Lines.{has};
 ghost use Rattle.lines.specs.Parts.{positive, negative};
 ghost use Rattle.branch_lines.specs.Stored.{lineAt};
 ghost use Rattle.rules.specs.declared.conclusion.Conclusion.{Conclusion};
-ghost use Rattle.rules.specs.Rules.{comparing, rule1, rule2, rule3, rule4, rule5, rule6, rule7, clashIf, opposedHas, rule21, ruleAt};
+ghost use Rattle.rules.specs.Rules.{when, comparing, rule1, rule2, rule3, rule4, rule5, rule6, rule7, clashIf, opposedHas, rule21, rule24, rule25, ruleAt};
 
 // 1. "P has/lacks not φ: lacks/has φ."
 fn rule1(h: HasLine, e: Entry) -> Outcome
@@ -69,30 +70,44 @@ fn lacks_at(h: HasLine, e: Entry, wanted: Kind) -> bool
     kind.is(wanted) & is_negative(sign)
 }
 
+// Both parts of the node, x and then y, had or lacked at the name, where the test passed.
+fn both_parts(fits: bool, sign: Sign, h: HasLine, e: Entry) -> Outcome
+    ensures { λ r. ⌜ r ≡ when fits (Conclusion.Two (has sign (h .name) (e .x)) (has sign (h .name) (e .y))) ⌝ }
+{
+    if fits {
+        let name = h.name;
+        let first = has_line(sign, name, e.x);
+        let second = has_line(sign, name, e.y);
+        return Outcome::Fits(Conclusion::Two(first, second));
+    }
+    Outcome::Unfit
+}
+
+// A fork where the test passed: the part x of the node had or lacked at the name, or the part y.
+fn either_part(fits: bool, sign: Sign, h: HasLine, e: Entry) -> Outcome
+    ensures { λ r. ⌜ r ≡ when fits (Conclusion.Fork (has sign (h .name) (e .x)) (has sign (h .name) (e .y))) ⌝ }
+{
+    if fits {
+        let name = h.name;
+        let left = has_line(sign, name, e.x);
+        let right = has_line(sign, name, e.y);
+        return Outcome::Fits(Conclusion::Fork(left, right));
+    }
+    Outcome::Unfit
+}
+
 // 2. "P has both: has φ, then has ψ."
 fn rule2(h: HasLine, e: Entry) -> Outcome
     ensures { λ r. ⌜ r ≡ rule2 h e ⌝ }
 {
-    if has_at(h, e, Kind::Both) {
-        let name = h.name;
-        let first = has_line(Sign::Positive, name, e.x);
-        let second = has_line(Sign::Positive, name, e.y);
-        return Outcome::Fits(Conclusion::Two(first, second));
-    }
-    Outcome::Unfit
+    both_parts(has_at(h, e, Kind::Both), Sign::Positive, h, e)
 }
 
 // 3. "P lacks both: fork, lacks φ or lacks ψ."
 fn rule3(h: HasLine, e: Entry) -> Outcome
     ensures { λ r. ⌜ r ≡ rule3 h e ⌝ }
 {
-    if lacks_at(h, e, Kind::Both) {
-        let name = h.name;
-        let left = has_line(Sign::Negative, name, e.x);
-        let right = has_line(Sign::Negative, name, e.y);
-        return Outcome::Fits(Conclusion::Fork(left, right));
-    }
-    Outcome::Unfit
+    either_part(lacks_at(h, e, Kind::Both), Sign::Negative, h, e)
 }
 
 // 4. "P has/lacks name j: is/is not j."
@@ -178,6 +193,20 @@ fn rule21(h: HasLine, q: Line) -> bool
     opposes(h, m)
 }
 
+// 24. "P has either, fork, has φ or has ψ."
+fn rule24(h: HasLine, e: Entry) -> Outcome
+    ensures { λ r. ⌜ r ≡ rule24 h e ⌝ }
+{
+    either_part(has_at(h, e, Kind::Either), Sign::Positive, h, e)
+}
+
+// 25. "P lacks either, lacks φ then lacks ψ."
+fn rule25(h: HasLine, e: Entry) -> Outcome
+    ensures { λ r. ⌜ r ≡ rule25 h e ⌝ }
+{
+    both_parts(lacks_at(h, e, Kind::Either), Sign::Negative, h, e)
+}
+
 // What the rule of a number gives where P is a has/lacks line whose node is an entry of the pattern, and
 // Q is line q of the area, which is read by the rules alone that use it; rules that P doesn't fit give
 // nothing.
@@ -196,6 +225,8 @@ pub fn outcome(p: &[u8], area: &[u8], rule: u8, h: HasLine, q: usize, argument: 
         6 => rule6(h, e, load(area, q)),
         7 => rule7(h, e),
         21 => clash_if(rule21(h, load(area, q))),
+        24 => rule24(h, e),
+        25 => rule25(h, e),
         _ => Outcome::Unfit,
     }
 }

@@ -90,8 +90,7 @@ fn fill(
         return false;
     }
     let e = Entry::at(p, k);
-    let kind = e.kind;
-    let path = path_kind(kind);
+    let path = path_kind(e);
     let held = test_nodes(p, table, alike, area, rows, marks, n, path, e.x);
     let first = row_of_path(marks, n, other_path(path, e.x, e.y));
     let second = row_of_path(marks, n, e.y);

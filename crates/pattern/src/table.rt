@@ -1,11 +1,11 @@
-// Document 01's table of entries: the kinds, which of them are nodes and which are paths, and what
-// the three fields of each hold.
+// Document 01's table of entries, with the kind that document 02's Job 6 adds: the kinds, which of them
+// are nodes and which are paths, and what the three fields of each hold.
 ghost use mathlib.Core.Path.{_≡_};
 ghost use Rattle.pattern.specs.File.Table.{kindOf, kindNumber, sameKind, sortOf, formOf, isNode, isPath, isNeither};
 
-// Document 01's kinds, in its words. In the words of the sources: `After` is the modal diamond, `Same`
+// The documents' kinds, in their words. In the words of the sources: `After` is the modal diamond, `Same`
 // and `Differ` are the data comparisons, `Jump` goes to a named node, `Fork` is the union of paths,
-// and each path kind carries the rest of its path.
+// and each path kind carries the rest of its path. `Either` is a node, and the disjunction of two.
 pub enum Kind {
     Property,
     Name,
@@ -18,6 +18,7 @@ pub enum Kind {
     Jump,
     Test,
     Fork,
+    Either,
     Unknown,
 }
 
@@ -66,11 +67,12 @@ impl Kind {
             9 => Kind::Jump,
             10 => Kind::Test,
             11 => Kind::Fork,
+            12 => Kind::Either,
             _ => Kind::Unknown,
         }
     }
 
-    // Document 01's number of the kind; 0 is of none.
+    // The documents' number of the kind; 0 is of none.
     fn number(self) -> u8
         ensures { λ r. ⌜ r ≡ kindNumber self ⌝ }
     {
@@ -86,6 +88,7 @@ impl Kind {
             Kind::Jump => 9,
             Kind::Test => 10,
             Kind::Fork => 11,
+            Kind::Either => 12,
             Kind::Unknown => 0,
         }
     }
@@ -112,6 +115,7 @@ impl Kind {
             Kind::Jump => Sort::Path,
             Kind::Test => Sort::Path,
             Kind::Fork => Sort::Path,
+            Kind::Either => Sort::Node,
             Kind::Unknown => Sort::Neither,
         }
     }
@@ -131,6 +135,7 @@ impl Kind {
             Kind::Jump => row(Field::Name, Field::Path, Field::Unused),
             Kind::Test => row(Field::Node, Field::Path, Field::Unused),
             Kind::Fork => row(Field::Path, Field::Path, Field::Unused),
+            Kind::Either => row(Field::Node, Field::Node, Field::Unused),
             Kind::Unknown => row(Field::Unused, Field::Unused, Field::Unused),
         }
     }

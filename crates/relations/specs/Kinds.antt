@@ -1,4 +1,4 @@
--- 01's kinds as evaluation tells them apart, and back.
+-- The documents' kinds as evaluation tells them apart, and back.
 -- Assumes nothing.
 use mathlib.Core.Path.{_≡_, refl, sym, subst}
 use Rattle.pattern.specs.declared.types.Comparison.{Comparison}
@@ -20,6 +20,7 @@ nodeKindOf Kind.Step = NodeKind.NoNode
 nodeKindOf Kind.Jump = NodeKind.NoNode
 nodeKindOf Kind.Test = NodeKind.NoNode
 nodeKindOf Kind.Fork = NodeKind.NoNode
+nodeKindOf Kind.Either = NodeKind.Either
 nodeKindOf Kind.Unknown = NodeKind.NoNode
 
 abbrev pub pathKindOf : Kind → PathKind
@@ -34,6 +35,7 @@ pathKindOf Kind.Both = PathKind.NoPath
 pathKindOf Kind.After = PathKind.NoPath
 pathKindOf Kind.Same = PathKind.NoPath
 pathKindOf Kind.Differ = PathKind.NoPath
+pathKindOf Kind.Either = PathKind.NoPath
 pathKindOf Kind.Unknown = PathKind.NoPath
 
 -- the kind of a comparison
@@ -47,6 +49,7 @@ IsNodeKind NodeKind.Property κ = κ ≡ Kind.Property
 IsNodeKind NodeKind.Name κ = κ ≡ Kind.Name
 IsNodeKind NodeKind.Not κ = κ ≡ Kind.Not
 IsNodeKind NodeKind.Both κ = κ ≡ Kind.Both
+IsNodeKind NodeKind.Either κ = κ ≡ Kind.Either
 IsNodeKind NodeKind.After κ = κ ≡ Kind.After
 IsNodeKind (NodeKind.Compare c) κ = κ ≡ comparisonKind c
 IsNodeKind NodeKind.NoNode κ = sortOf κ ≡ Sort.Node → ⊥
@@ -71,6 +74,7 @@ is-node-kind Kind.Step = path-no-node
 is-node-kind Kind.Jump = path-no-node
 is-node-kind Kind.Test = path-no-node
 is-node-kind Kind.Fork = path-no-node
+is-node-kind Kind.Either = refl
 is-node-kind Kind.Unknown = neither-no-node
 
 is-path-kind : (κ : Kind) → IsPathKind (pathKindOf κ) κ
@@ -85,6 +89,7 @@ is-path-kind Kind.Step = refl
 is-path-kind Kind.Jump = refl
 is-path-kind Kind.Test = refl
 is-path-kind Kind.Fork = refl
+is-path-kind Kind.Either = λ e. path-no-node (sym e)
 is-path-kind Kind.Unknown = neither-no-path
 
 pub node-kind-is : (κ : Kind) (kind : NodeKind) → kind ≡ nodeKindOf κ → IsNodeKind kind κ

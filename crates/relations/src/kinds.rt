@@ -1,4 +1,5 @@
 // The kinds of entries as evaluation tells them apart: node entries, and path entries.
+use pattern::entry::Entry;
 use pattern::table::Kind;
 use pattern::types::Comparison;
 ghost use mathlib.Core.Path.{_≡_};
@@ -10,6 +11,7 @@ pub enum NodeKind {
     Name,
     Not,
     Both,
+    Either,
     After,
     Compare(Comparison),
     NoNode,
@@ -23,9 +25,11 @@ pub enum PathKind {
     NoPath,
 }
 
-pub fn node_kind(kind: Kind) -> NodeKind
-    ensures { λ r. ⌜ r ≡ nodeKindOf kind ⌝ }
+// The kind of an entry as a node.
+pub fn node_kind(e: Entry) -> NodeKind
+    ensures { λ r. ⌜ r ≡ nodeKindOf (e .kind) ⌝ }
 {
+    let kind = e.kind;
     match kind {
         Kind::Property => NodeKind::Property,
         Kind::Name => NodeKind::Name,
@@ -38,13 +42,16 @@ pub fn node_kind(kind: Kind) -> NodeKind
         Kind::Jump => NodeKind::NoNode,
         Kind::Test => NodeKind::NoNode,
         Kind::Fork => NodeKind::NoNode,
+        Kind::Either => NodeKind::Either,
         Kind::Unknown => NodeKind::NoNode,
     }
 }
 
-pub fn path_kind(kind: Kind) -> PathKind
-    ensures { λ r. ⌜ r ≡ pathKindOf kind ⌝ }
+// The kind of an entry as a path.
+pub fn path_kind(e: Entry) -> PathKind
+    ensures { λ r. ⌜ r ≡ pathKindOf (e .kind) ⌝ }
 {
+    let kind = e.kind;
     match kind {
         Kind::Step => PathKind::Step,
         Kind::Jump => PathKind::Jump,
@@ -57,6 +64,7 @@ pub fn path_kind(kind: Kind) -> PathKind
         Kind::After => PathKind::NoPath,
         Kind::Same => PathKind::NoPath,
         Kind::Differ => PathKind::NoPath,
+        Kind::Either => PathKind::NoPath,
         Kind::Unknown => PathKind::NoPath,
     }
 }

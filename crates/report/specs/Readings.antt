@@ -246,8 +246,40 @@ Job5 =
     × (judgingOf patternG [] 23 ≡ refused 9 0)
     × (judgingOf patternG [] 24 ≡ refused 10 0)
 
+-- 02, Job 6: "node kind 12, either, with x and y node references; it holds where at least one part holds. Rule 24: P has either, fork, has φ
+-- or has ψ. Rule 25: P lacks either, lacks φ then lacks ψ. Refusals 4 and 19 widen accordingly; neither rule is a clash." Either of two
+-- names, nodes 1 and 3 of four, which holds at both, and its three node entries; z not zero, a part that is a path, one that isn't earlier,
+-- and a path that goes on by an either; kind 13. Either and not that either: 25 and then 24, whose first side is that of φ, which counts as a
+-- fork; the sides closed in the other order; 24 where P lacks it and 25 where P has it; fields that they don't use; rule 26.
+abbrev pub patternEither : List ℕ
+patternEither = patternFile 3 (2 ∷ 5 ∷ 0 ∷ 0 ∷ 2 ∷ 6 ∷ 0 ∷ 0 ∷ 12 ∷ 0 ∷ 1 ∷ 0 ∷ [])
+
+abbrev pub patternNeither : List ℕ
+patternNeither = patternFile 5 (1 ∷ 0 ∷ 0 ∷ 0 ∷ 1 ∷ 1 ∷ 0 ∷ 0 ∷ 12 ∷ 0 ∷ 1 ∷ 0 ∷ 3 ∷ 2 ∷ 0 ∷ 0 ∷ 4 ∷ 2 ∷ 3 ∷ 0 ∷ [])
+
+-- its has either, line 1; its lacks either, line 3
+abbrev pub parted : List ℕ
+parted = step 2 0 0 0 ++ step 1 2 0 0
+
+abbrev pub Job6 : Type 0
+Job6 =
+    Prints patternEither (modelFile 4 2 0 (node 0 ++ node 0 ++ node 0 ++ node 0 ++ (5 ∷ 1 ∷ 6 ∷ 3 ∷ []))) "met 1 2"
+    × (areaWanted patternEither ≡ 24)
+    × (readingOf (patternFile 2 (1 ∷ 0 ∷ 0 ∷ 0 ∷ 12 ∷ 0 ∷ 0 ∷ 1 ∷ [])) ≡ refused 5 1)
+    × (readingOf (patternFile 2 (8 ∷ 0 ∷ 255 ∷ 0 ∷ 12 ∷ 0 ∷ 0 ∷ 0 ∷ [])) ≡ refused 6 1)
+    × (readingOf (patternFile 2 (1 ∷ 0 ∷ 0 ∷ 0 ∷ 12 ∷ 0 ∷ 1 ∷ 0 ∷ [])) ≡ refused 6 1)
+    × (readingOf (patternFile 3 (1 ∷ 0 ∷ 0 ∷ 0 ∷ 12 ∷ 0 ∷ 0 ∷ 0 ∷ 8 ∷ 0 ∷ 1 ∷ 0 ∷ [])) ≡ refused 6 2)
+    × (readingOf (patternFile 1 (13 ∷ 0 ∷ 0 ∷ 0 ∷ [])) ≡ refused 4 0)
+    × Prints patternNeither (tableauFile 0 6 (parted ++ step 25 3 0 0 ++ step 24 1 0 0 ++ step 21 4 6 0 ++ step 21 5 6 0)) "closed 6 2 1 7"
+    × Prints patternNeither (tableauFile 0 6 (parted ++ step 25 3 0 0 ++ step 24 1 0 0 ++ step 21 5 6 0 ++ step 21 4 6 0)) "refused 21 4"
+    × Prints patternNeither (tableauFile 0 3 (parted ++ step 24 3 0 0)) "refused 21 2"
+    × Prints patternNeither (tableauFile 0 3 (parted ++ step 25 1 0 0)) "refused 21 2"
+    × Prints patternNeither (tableauFile 0 3 (parted ++ step 24 1 1 0)) "refused 20 2"
+    × Prints patternNeither (tableauFile 0 3 (parted ++ step 25 3 0 1)) "refused 20 2"
+    × Prints patternNeither (tableauFile 0 3 (parted ++ step 26 1 0 0)) "refused 19 2"
+
 abbrev pub readings : List (Type 0)
-readings = A ∷ B ∷ C ∷ D ∷ E ∷ F ∷ G ∷ H ∷ I ∷ J ∷ Job1 ∷ Job2 ∷ Job3 ∷ Job4 ∷ Job5 ∷ []
+readings = A ∷ B ∷ C ∷ D ∷ E ∷ F ∷ G ∷ H ∷ I ∷ J ∷ Job1 ∷ Job2 ∷ Job3 ∷ Job4 ∷ Job5 ∷ Job6 ∷ []
 
 -- ---- laws
 
@@ -296,4 +328,4 @@ I-holds = (always-unmet, files, any)
 
 pub readings-hold : All readings
 unfolding readingOf patternCheck headerCheck entryCheck rootCheck eachField someBelow eachBelow sameBytes judgingBy judgingCheck namesCheck modelCheck file.headerCheck nameCheck edgeCheck orderCheck recordCheck comesBefore isListed nodeAt nodeWithin pathWithin holdsTest leadsTest judgedBy lowestBelow countBelow leadsIn nodeNamed tableau.judgingOf tableau.judgingCheck tableau.headerCheck tableau.runOf run stepping ruleAt stepAt stepsFrom branchHas usesName digitsWithin listBelow edgesOf frontOf orderedFile fileWithin orderingOf onto cleared
-readings-hold = (refl, (refl, (refl, (refl, (refl, (refl, (refl, (refl, (I-holds, ((refl, refl, refl, refl), ((refl, refl, refl, refl, refl), ((refl, refl, refl, refl), ((refl, refl, refl, refl, refl, refl, refl, refl, refl), ((refl, refl, refl, refl, refl, refl, refl, refl, refl, refl), ((refl, refl, refl, refl, refl, refl, refl, refl, refl, refl, refl, refl), tt)))))))))))))))
+readings-hold = (refl, (refl, (refl, (refl, (refl, (refl, (refl, (refl, (I-holds, ((refl, refl, refl, refl), ((refl, refl, refl, refl, refl), ((refl, refl, refl, refl), ((refl, refl, refl, refl, refl, refl, refl, refl, refl), ((refl, refl, refl, refl, refl, refl, refl, refl, refl, refl), ((refl, refl, refl, refl, refl, refl, refl, refl, refl, refl, refl, refl), ((refl, refl, refl, refl, refl, refl, refl, refl, refl, refl, refl, refl, refl, refl), tt))))))))))))))))

@@ -1,6 +1,6 @@
--- 01's rules 1 to 23, one equation each, in its order and words: from the lines P and Q and the argument to what they give. h is
--- the has/lacks line P and e the entry of its node; l is the comparison or the is/is not line P, and in 9 to 15 e is the entry of its left
--- path; Q is the line Q, and q that line where its form is known.
+-- 01's rules 1 to 23 and 02's rules 24 and 25 (Job 6), one equation each, in their order and words: from the lines P and Q and the argument
+-- to what they give. h is the has/lacks line P and e the entry of its node; l is the comparison or the is/is not line P, and in 9 to 15 e is
+-- the entry of its left path; Q is the line Q, and q that line where its form is known.
 -- Assumes nothing.
 use mathlib.Core.Bool.{Bool, true, false, not, _&&_}
 use mathlib.Core.List.{List, [], _∷_}
@@ -260,9 +260,21 @@ rule23 (Line.Edge l) = Outcome.Unfit
 rule23 (Line.Compare l) =
     clashIf (positive (l .sign) && isDiffer (l .comparison) && bothAtEnd l && sameName (l .left .name) (l .right .name))
 
+-- 24. "P has either, fork, has φ or has ψ."
+abbrev pub rule24 : HasLine → Entry → Outcome
+rule24 h e =
+    when (sameKind (e .kind) Kind.Either && positive (h .sign))
+    (Conclusion.Fork (has Sign.Positive (h .name) (e .x)) (has Sign.Positive (h .name) (e .y)))
+
+-- 25. "P lacks either, lacks φ then lacks ψ."
+abbrev pub rule25 : HasLine → Entry → Outcome
+rule25 h e =
+    when (sameKind (e .kind) Kind.Either && negative (h .sign))
+    (Conclusion.Two (has Sign.Negative (h .name) (e .x)) (has Sign.Negative (h .name) (e .y)))
+
 -- ---- the table of the rules
 
--- All that 01 says of a rule: its number; how many sides what it concludes has; whether it uses the line Q, and the argument, beside P; and
+-- All that the documents say of a rule: its number; how many sides what it concludes has; whether it uses the line Q, and the argument, beside P; and
 -- its outcome, for the pattern of these bytes, from P, Q and the argument.
 pub record Rule : Type 0 where
   pub number : ℕ
@@ -330,6 +342,8 @@ rules =
     ∷ ofPQ 21 clashes (λ bs. rule21)
     ∷ ofPQ 22 clashes (λ bs P Q. onCompare (λ l. rule22 l Q) P)
     ∷ ofP 23 clashes (λ bs. rule23)
+    ∷ ofP 24 forks (onNode rule24)
+    ∷ ofP 25 grows (onNode rule25)
     ∷ []
 
 -- one of a list: of the rules, of the names that a conclusion wants fresh

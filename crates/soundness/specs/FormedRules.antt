@@ -1,4 +1,4 @@
--- From lines that speak of a pattern's entries the rules 1 to 23 conclude such lines.
+-- From lines that speak of a pattern's entries the rules conclude such lines.
 -- Assumes nothing.
 use mathlib.Core.Path.{_≡_, refl, subst}
 use mathlib.Core.Logic.{inl}
@@ -23,7 +23,7 @@ use Rattle.rules.specs.declared.fit.Direction.{Direction}
 use Rattle.lines.specs.Lines.{has, leads, side, axis, lineOn}
 use Rattle.lines.specs.Formed.{IsNode, Formed, AllFormed, formed-at}
 use Rattle.lines.specs.Parts.{withLeft}
-use Rattle.rules.specs.Rules.{Rule, ruleAt, comparing, onIs, onCompare, onNode, onLeft, rule1, rule2, rule3, rule4, rule5, rule6, rule7, rule8, rule9, rule10, rule11, rule12, rule13, rule14, rule15, rule16, rule17, rule18, rule19, replaced, replacedFirst, replacedSecond, rule20, chained, rule21, rule22, clashIf, contrary, rule23}
+use Rattle.rules.specs.Rules.{Rule, ruleAt, comparing, onIs, onCompare, onNode, onLeft, rule1, rule2, rule3, rule4, rule5, rule6, rule7, rule8, rule9, rule10, rule11, rule12, rule13, rule14, rule15, rule16, rule17, rule18, rule19, replaced, replacedFirst, replacedSecond, rule20, chained, rule21, rule22, clashIf, contrary, rule23, rule24, rule25}
 use Rattle.soundness.specs.Entries.{References, references-of, on-path}
 use Rattle.soundness.specs.Cases.{WhereFits, otherwise-fits, kind-fits, held-fits, barred-fits, new-fits, named-fits, has-fits, is-fits, compare-fits, left-fits, arrival-fits, fits16, fits17, fits18, fits19, fits20, fits21has, fits21is, fits21compare, fits22, fits23is, fits23compare}
 use Rattle.rules.specs.Sides.{sides}
@@ -94,6 +94,12 @@ module _ {bs : List ℕ} {n : ℕ} (ok : Valid bs n) where
         otherwise-fits Shown tt node Kind.Same (Outcome.Fits (comparing h node Comparison.Same)) _
         (λ κ. let r = node-refers Kind.Same κ in one (r .1, r .2))
         (kind-fits Shown tt node Kind.Differ _ (λ κ. let r = node-refers Kind.Differ κ in one (r .1, r .2)))
+
+    formed24 : Shown (rule24 h node)
+    formed24 = held-fits Shown tt node Kind.Either (h .sign) _ (λ κ s. let r = node-refers Kind.Either κ in fork (r .0) (r .1))
+
+    formed25 : Shown (rule25 h node)
+    formed25 = barred-fits Shown tt node Kind.Either (h .sign) _ (λ κ s. let r = node-refers Kind.Either κ in two (r .0) (r .1))
 
   module _ (l : CompareLine) (on : l .left .path ≡ endOfPath → ⊥) (f : Formed bs n (Line.Compare l)) where
     abbrev path : Entry
@@ -217,6 +223,8 @@ module _ {bs : List ℕ} {n : ℕ} (ok : Valid bs n) where
       and (λ P Q a f g. formed21 P Q)
       and (λ P Q a f g. by-compare (λ l. rule22 l Q) (λ l i. formed22 l Q) P f)
       and (λ P Q a f g. formed23 P)
+      and (λ P Q a f g. by-has rule24 formed24 P f)
+      and (λ P Q a f g. by-has rule25 formed25 P f)
       and tt)
       (λ k P Q a f g. tt)
 

@@ -18,7 +18,7 @@ use Rattle.rules.specs.declared.conclusion.Conclusion.{Conclusion}
 use Rattle.rules.specs.declared.conclusion.Outcome.{Outcome}
 use Rattle.rules.specs.declared.fit.Direction.{Direction}
 use Rattle.lines.specs.Lines.{name, lineOn}
-use Rattle.rules.specs.Rules.{Rule, ruleAt, only, when, comparing, newName, farEnd, arrival, arriving, replacedFirst, replacedSecond, replaced, onIs, onCompare, onNode, onLeft, rule1, rule2, rule3, rule4, rule5, rule6, rule7, rule8, rule9, rule10, rule11, rule12, rule13, rule14, rule15, rule16, rule17, rule18, rule19, rule20, chained, rule21, rule22, clashIf, contrary, rule23}
+use Rattle.rules.specs.Rules.{Rule, ruleAt, only, when, comparing, newName, farEnd, arrival, arriving, replacedFirst, replacedSecond, replaced, onIs, onCompare, onNode, onLeft, rule1, rule2, rule3, rule4, rule5, rule6, rule7, rule8, rule9, rule10, rule11, rule12, rule13, rule14, rule15, rule16, rule17, rule18, rule19, rule20, chained, rule21, rule22, clashIf, contrary, rule23, rule24, rule25}
 use Rattle.soundness.specs.Cases.{WhereFits, only-fits, otherwise-fits, new-fits, arrival-fits, has-fits, is-fits, compare-fits, left-fits}
 use Rattle.rules.specs.Sides.{sides}
 use Rattle.rules.specs.Table.{each-rule, _and_}
@@ -141,6 +141,8 @@ rule-shaped =
     and (λ bs P Q a. opposes P Q)
     and (λ bs P Q a. on-compare (λ l. rule22 l Q) (λ l. on-compare (λ q. clashIf (contrary l q)) (λ q. search (when-shaped, clash)) Q) P)
     and (λ bs P Q a. refutes-itself P)
+    and (λ bs P Q a. on-has rule24 (λ h e. search (when-shaped, fork)) bs P)
+    and (λ bs P Q a. on-has rule25 (λ h e. search (when-shaped, two)) bs P)
     and tt
     )
     (λ k bs P Q a. unfit)

@@ -1,4 +1,4 @@
--- The rules 1 to 23 are sound: where a step's lines are true, the sides of what it concludes can't all be refuted.
+-- The rules are sound: where a step's lines are true, the sides of what it concludes can't all be refuted.
 -- Assumes nothing.
 use mathlib.Core.Path.{_≡_, refl, sym, _∙_, ap, subst}
 use mathlib.Core.Logic.{_⊎_, inl, inr, _↔_}
@@ -36,7 +36,7 @@ use Rattle.rules.specs.declared.fit.Direction.{Direction}
 use Rattle.lines.specs.Lines.{has, leads, side, axis, name, lineOn, lineHas, branchHas, line-lacks}
 use Rattle.lines.specs.Formed.{IsNode, Formed, AllFormed, formed-at}
 use Rattle.lines.specs.Parts.{withLeft, channelAt}
-use Rattle.rules.specs.Rules.{Rule, ruleAt, comparing, onIs, onCompare, onNode, onLeft, rule1, rule2, rule3, rule4, rule5, rule6, rule7, rule8, rule9, rule10, rule11, rule12, rule13, rule14, rule15, rule16, rule17, rule18, rule19, replaced, replacedFirst, replacedSecond, rule20, chained, rule21, rule22, clashIf, contrary, rule23, _∈_}
+use Rattle.rules.specs.Rules.{Rule, ruleAt, comparing, onIs, onCompare, onNode, onLeft, rule1, rule2, rule3, rule4, rule5, rule6, rule7, rule8, rule9, rule10, rule11, rule12, rule13, rule14, rule15, rule16, rule17, rule18, rule19, replaced, replacedFirst, replacedSecond, rule20, chained, rule21, rule22, clashIf, contrary, rule23, rule24, rule25, _∈_}
 use Rattle.soundness.specs.Cases.{WhereFits, AtEnds, otherwise-fits, kind-fits, held-fits, barred-fits, new-fits, named-fits, has-fits, is-fits, compare-fits, left-fits, arrival-fits, fits16, fits17, fits18, fits19, fits20, fits21has, fits21is, fits21compare, fits22, fits23is, fits23compare}
 use Rattle.steps.specs.Steps.{Follows, follows-fits, follows-on}
 use Rattle.soundness.specs.Entries.{references-of, first-within, on-path, NodeSays, PathSays, node-says, path-says}
@@ -187,6 +187,14 @@ module _ {bs : List ℕ} {n : ℕ} (ok : Valid bs n) (M : Model) (nom : Naming M
         otherwise-fits Shown tt node Kind.Same (Outcome.Fits (comparing h node Comparison.Same)) _
         (λ κ. compares Comparison.Same (within Kind.Same κ) (says Kind.Same κ))
         (kind-fits Shown tt node Kind.Differ _ (λ κ. compares Comparison.Differ (within Kind.Differ κ) (says Kind.Differ κ)))
+
+    sound24 : Shown (rule24 h node)
+    sound24 = held-fits Shown tt node Kind.Either (h .sign) _ (λ κ s. fork-sound (either (held s (says Kind.Either κ))))
+
+    sound25 : Shown (rule25 h node)
+    sound25 =
+        barred-fits Shown tt node Kind.Either (h .sign) _
+        (λ κ s. two-sound (λ never. let neither = barred s (says Kind.Either κ) in never (λ a. neither (inl a)) (λ b. neither (inr b))))
 
   -- ---- P is a comparison
   sound8 : (l : CompareLine) → True bs M nom (Line.Compare l) → Shown (rule8 l)
@@ -491,6 +499,8 @@ module _ {bs : List ℕ} {n : ℕ} (ok : Valid bs n) (M : Model) (nom : Naming M
       and (λ P Q a g f t w. sound21 P Q t g)
       and (λ P Q a g. by-compare (λ l. rule22 l Q) (λ l f t w. sound22 l Q t g) P)
       and (λ P Q a g f t w. sound23 P t)
+      and (λ P Q a g. by-has rule24 (λ h f t w. sound24 h f t) P)
+      and (λ P Q a g. by-has rule25 (λ h f t w. sound25 h f t) P)
       and tt)
       (λ k P Q a g f t w. tt)
 

@@ -15,9 +15,9 @@ const SHORT: usize = 30;
 const TINY: usize = 8;
 
 const NOTATION: &str = "\
-Notation: pN property, nN name, !f not, (f & g) both, <aN>f after on axis N, [x = y on cN] same and
-[x != y on cN] differ on channel N; paths: /aN step, @nN jump, ?f test, {x | y} fork, . end of path;
-eN the entry of that number";
+Notation: pN property, nN name, !f not, (f & g) both, (f | g) either, <aN>f after on axis N,
+[x = y on cN] same and [x != y on cN] differ on channel N; paths: /aN step, @nN jump, ?f test,
+{x | y} fork, . end of path; eN the entry of that number";
 
 pub struct Formula<'a> {
     pattern: &'a Pattern,
@@ -73,6 +73,7 @@ impl<'a> Formula<'a> {
             Entry::Jump(name, alpha) => format!("@n{name}{}", self.rest(alpha)),
             Entry::Test(phi, alpha) => format!("?{}{}", self.mention(phi), self.rest(alpha)),
             Entry::Fork(alpha, beta) => format!("{{{} | {}}}", self.whole(alpha), self.whole(beta)),
+            Entry::Either(phi, psi) => format!("({} | {})", self.mention(phi), self.mention(psi)),
         }
     }
 

@@ -1,9 +1,9 @@
-//! The rules' names, what each says after document 01's list, and steps in words.
+//! The rules' names, what each says after the documents' lists, and steps in words.
 
 use super::formula::Formula;
 use super::wording::numbered;
 use crate::tableau::line::Line;
-use crate::tableau::rules::{Step, uses_q};
+use crate::tableau::rules::{LAST_RULE, Step, uses_q};
 
 /// A rule's name and what it says; `None` for a rule that there isn't.
 pub fn described(rule: u8) -> Option<(&'static str, &'static str)> {
@@ -11,7 +11,7 @@ pub fn described(rule: u8) -> Option<(&'static str, &'static str)> {
 }
 
 /// By rule number, from 1.
-const RULES: [(&str, &str); 23] = [
+const RULES: [(&str, &str); LAST_RULE as usize] = [
     ("not", "P has/lacks !f: lacks/has f"),
     ("has both", "P has (f & g): has f, then has g"),
     ("lacks both", "P lacks (f & g): fork, lacks f or lacks g"),
@@ -41,6 +41,8 @@ const RULES: [(&str, &str); 23] = [
     ("clash of signs", "P and Q alike but for sign: clash"),
     ("clash of data", "P = and Q != hold, all else alike and both paths at end: clash"),
     ("clash with itself", "P is \"i is not i\", or (i, .) != (i, .) holds: clash"),
+    ("has either", "P has (f | g): fork, has f or has g"),
+    ("lacks either", "P lacks (f | g): lacks f, then lacks g"),
 ];
 
 /// A step: its rule and the fields that the rule uses.

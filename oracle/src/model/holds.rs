@@ -82,6 +82,7 @@ impl<'a> Sweep<'a> {
             Entry::Name(name) => self.model.node_of(name) == node,
             Entry::Not(phi) => !contains(self.holds[phi], node),
             Entry::Both(phi, psi) => contains(self.holds[phi], node) && contains(self.holds[psi], node),
+            Entry::Either(phi, psi) => contains(self.holds[phi], node) || contains(self.holds[psi], node),
             Entry::After(axis, phi) => self.successors[axis as usize][node] & self.holds[phi] != 0,
             Entry::Compare(comparison, channel, alpha, beta) => {
                 self.compares(comparison, channel, self.ends_of(alpha, node), self.ends_of(beta, node))

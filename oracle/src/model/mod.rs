@@ -49,7 +49,7 @@ pub fn area_wanted(pattern: &[u8]) -> usize {
     pattern::parse(pattern).map_or(0, |pattern| area(&pattern))
 }
 
-/// Judging a model as document 01 and Jobs 1, 3 and 5 state it, with what it does to the working area.
+/// Judging a model as document 01 and Jobs 1, 3, 5 and 6 state it, with what it does to the working area.
 pub fn judge(pattern: &[u8], model: &[u8], area: &mut [u8]) -> Finding {
     judge_by(parse, pattern, model, area)
 }

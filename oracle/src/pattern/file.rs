@@ -77,6 +77,7 @@ fn fields_of(kind: u8) -> Option<[Field; 3]> {
         9 => [Name, Path, Unused],
         10 => [Node, Path, Unused],
         11 => [Path, Path, Unused],
+        12 => [Node, Node, Unused],
         _ => return None,
     })
 }
@@ -103,7 +104,7 @@ fn refers_well(field: Field, value: u8, earlier: &[Entry]) -> bool {
     }
 }
 
-/// The entry of a kind from 1 to 11 with these fields.
+/// The entry of a kind from 1 to 12 with these fields.
 fn decoded(kind: u8, [x, y, z]: [u8; 3]) -> Entry {
     let node = |value: u8| value as usize;
     let path = |value: u8| (value != END).then_some(value as usize);
@@ -118,7 +119,8 @@ fn decoded(kind: u8, [x, y, z]: [u8; 3]) -> Entry {
         8 => Entry::Step(x, path(y)),
         9 => Entry::Jump(x, path(y)),
         10 => Entry::Test(node(x), path(y)),
-        _ => Entry::Fork(path(x), path(y)),
+        11 => Entry::Fork(path(x), path(y)),
+        _ => Entry::Either(node(x), node(y)),
     }
 }
 
@@ -139,6 +141,7 @@ impl Entry {
             Entry::Jump(name, alpha) => [9, name, path(alpha), 0],
             Entry::Test(phi, alpha) => [10, node(phi), path(alpha), 0],
             Entry::Fork(alpha, beta) => [11, path(alpha), path(beta), 0],
+            Entry::Either(phi, psi) => [12, node(phi), node(psi), 0],
         }
     }
 }

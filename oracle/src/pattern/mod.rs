@@ -36,6 +36,7 @@ pub enum Entry {
     Jump(u8, Path),
     Test(usize, Path),
     Fork(Path, Path),
+    Either(usize, usize),
 }
 
 /// A pattern that was read: entries in order, the last the root.
@@ -44,7 +45,7 @@ pub struct Pattern {
     pub entries: Vec<Entry>,
 }
 
-/// Reading a pattern as document 01 states it.
+/// Reading a pattern as document 01 and Job 6 state it.
 pub fn read(bytes: &[u8]) -> Finding {
     match parse(bytes) {
         Ok(pattern) => Finding::Read { entries: pattern.entries.len() as u16 },
@@ -63,7 +64,7 @@ impl Comparison {
 }
 
 impl Entry {
-    /// "Kinds 1 to 7 are nodes, 8 to 11 paths."
+    /// "Kinds 1 to 7 are nodes, 8 to 11 paths"; Job 6: "Add node kind 12".
     pub fn is_path(&self) -> bool {
         matches!(self, Entry::Step(..) | Entry::Jump(..) | Entry::Test(..) | Entry::Fork(..))
     }
@@ -81,7 +82,7 @@ impl Entry {
         let referred = match *self {
             Entry::Property(_) | Entry::Name(_) => [None, None],
             Entry::Not(phi) | Entry::After(_, phi) => [Some(phi), None],
-            Entry::Both(phi, psi) => [Some(phi), Some(psi)],
+            Entry::Both(phi, psi) | Entry::Either(phi, psi) => [Some(phi), Some(psi)],
             Entry::Compare(_, _, alpha, beta) | Entry::Fork(alpha, beta) => [alpha, beta],
             Entry::Step(_, alpha) | Entry::Jump(_, alpha) => [alpha, None],
             Entry::Test(phi, alpha) => [Some(phi), alpha],

@@ -7,7 +7,7 @@ use super::agenda::Agenda;
 use super::aliases::Aliases;
 use super::proof::Move;
 use super::setting::Setting;
-use super::shape::{exchanged, with_first_name};
+use super::shape::{exchanged, with_first_name, without_nots};
 use super::values::{CHANNELS, Values};
 use crate::random::Random;
 use crate::tableau::line::Line;
@@ -69,6 +69,12 @@ impl<'a> Branch<'a> {
     /// Whether the branch has the line, or the same comparison with its sides exchanged.
     pub fn says(&self, line: Line) -> bool {
         self.known.contains_key(&line) || exchanged(line).is_some_and(|line| self.known.contains_key(&line))
+    }
+
+    /// Whether the branch says the opposite of the line, or of what rule 1 makes of it.
+    pub fn denies(&self, line: Line) -> bool {
+        let is_denied = |line: Line| line.denied().is_some_and(|denied| self.says(denied));
+        is_denied(line) || is_denied(without_nots(self.setting.pattern, line))
     }
 
     /// What the step concludes, if it fits its rule.

@@ -31,6 +31,17 @@ impl Builder {
         self.shared(Entry::Both(phi, psi))
     }
 
+    pub fn either(&mut self, phi: usize, psi: usize) -> usize {
+        self.shared(Entry::Either(phi, psi))
+    }
+
+    /// What either says, by three nots and a both.
+    pub fn not_neither(&mut self, phi: usize, psi: usize) -> usize {
+        let (not_phi, not_psi) = (self.not(phi), self.not(psi));
+        let neither = self.both(not_phi, not_psi);
+        self.not(neither)
+    }
+
     /// All of them, by nested "both".
     pub fn all(&mut self, nodes: &[usize]) -> usize {
         let (&first, rest) = nodes.split_first().expect("at least one entry");
@@ -105,5 +116,6 @@ fn with_references(entry: Entry, moved: impl Fn(usize) -> usize) -> Entry {
         Entry::Jump(name, alpha) => Entry::Jump(name, path(alpha)),
         Entry::Test(phi, alpha) => Entry::Test(moved(phi), path(alpha)),
         Entry::Fork(alpha, beta) => Entry::Fork(path(alpha), path(beta)),
+        Entry::Either(phi, psi) => Entry::Either(moved(phi), moved(psi)),
     }
 }

@@ -1,6 +1,6 @@
 //! The search for a closed tableau: one branch at a time, as a tableau file walks them.
 //!
-//! No step is ever taken back, because none of rules 1 to 20 loses anything: a branch that has no step left
+//! No step is ever taken back, because no rule that adds lines loses anything: a branch that has no step left
 //! to take can be made true, and then the pattern can occur.
 
 use std::ops::ControlFlow;
@@ -153,8 +153,8 @@ impl Search {
     fn next_fork(&mut self, branch: &mut Branch) -> Option<Fork> {
         let steps = std::mem::take(&mut branch.agenda.forks);
         let mut forks: Vec<Fork> = steps.into_iter().filter_map(|step| useful_fork(branch, step)).collect();
-        let denied = |line: Line| line.denied().is_some_and(|line| branch.says(line));
-        let clashes = |fork: &Fork| usize::from(denied(fork.left)) + usize::from(denied(fork.right));
+        let clashes =
+            |fork: &Fork| [fork.left, fork.right].into_iter().filter(|&line| branch.denies(line)).count();
         let best = (0..forks.len()).max_by_key(|&place| (clashes(&forks[place]), self.random.number()))?;
         let fork = forks.swap_remove(best);
         branch.agenda.forks = forks.iter().map(|fork| fork.step).collect();

@@ -34,6 +34,16 @@ pub fn exchanged(line: Line) -> Option<Line> {
     }
 }
 
+/// What rule 1 makes of the line, applied as often as it fits.
+pub fn without_nots(pattern: &Pattern, mut line: Line) -> Line {
+    while let Line::Has { holds, entry, .. } = &mut line
+        && let Entry::Not(phi) = pattern.entries[*entry]
+    {
+        (*holds, *entry) = (!*holds, phi);
+    }
+    line
+}
+
 /// Whether the line is a comparison with both paths at end.
 pub fn compares_ends(line: Line) -> bool {
     matches!(line, Line::Compare { left: (_, None), right: (_, None), .. })
@@ -48,7 +58,7 @@ pub fn is_plain(pattern: &Pattern, line: Line) -> bool {
     }
 }
 
-/// The rule from 1 to 16 that takes the line apart; 6 and 15 also want an axis line.
+/// The rule that takes the line apart, one of 1 to 16, 24 and 25; 6 and 15 also want an axis line.
 pub fn rule_for(pattern: &Pattern, line: Line) -> Option<u8> {
     match line {
         Line::Has { holds, entry, .. } => rule_for_entry(pattern.entries[entry], holds),
@@ -62,7 +72,7 @@ pub fn rule_for(pattern: &Pattern, line: Line) -> Option<u8> {
     }
 }
 
-/// The rule from 1 to 7 for a name that has (or lacks) a node entry.
+/// The rule for a name that has (or lacks) a node entry: one of 1 to 7, 24 and 25.
 fn rule_for_entry(entry: Entry, holds: bool) -> Option<u8> {
     Some(match entry {
         Entry::Not(_) => 1,
@@ -72,6 +82,8 @@ fn rule_for_entry(entry: Entry, holds: bool) -> Option<u8> {
         Entry::After(..) if holds => 5,
         Entry::After(..) => 6,
         Entry::Compare(..) => 7,
+        Entry::Either(..) if holds => 24,
+        Entry::Either(..) => 25,
         _ => return None,
     })
 }

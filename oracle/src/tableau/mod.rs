@@ -24,7 +24,7 @@ pub struct Tableau {
     pub steps: Vec<Step>,
 }
 
-/// Judging a tableau as document 01 states it, with what it does to the working area.
+/// Judging a tableau as document 01 and Job 6 state it, with what it does to the working area.
 pub fn judge(pattern: &[u8], tableau: &[u8], area: &mut [u8]) -> Finding {
     match admit(pattern, tableau, area.len()) {
         Ok((pattern, tableau)) => {

@@ -1,5 +1,6 @@
 //! The working area of judging a model: what an input shows of the bytes that are wanted and of those that are lent.
 
+use super::either::is_path;
 use super::limits::{Judged, Limit};
 use super::rows::Kept;
 use oracle::finding::Finding;
@@ -9,7 +10,7 @@ use oracle::pattern::{self, Entry, Pattern};
 /// The bytes that are wanted for a node entry.
 pub(super) const SET: usize = 8;
 
-pub const AREAS: [Limit; 20] = [
+pub const AREAS: [Limit; 22] = [
     ("found in as many bytes as wanted", |it| it.found_over(0)),
     ("found in a byte more than wanted", |it| it.found_over(1)),
     ("found in a set more than wanted", |it| it.found_over(SET)),
@@ -25,6 +26,12 @@ pub const AREAS: [Limit; 20] = [
     ("refused 9 in 7 bytes less than wanted", |it| it.short_by(SET - 1)),
     ("refused 9 in 8 bytes for each node entry that the root reaches", |it| {
         it.refused(9) && it.lent() == SET * nodes_reached(&it.pattern())
+    }),
+    ("found in as many bytes as wanted, either among the entries", |it| {
+        it.found_over(0) && it.wanted_but_either() < it.wanted()
+    }),
+    ("refused 9 in 8 bytes for each node entry but either", |it| {
+        it.refused(9) && it.lent() == it.wanted_but_either()
     }),
     ("refused 9 without an area", |it| it.refused(9) && it.lent() == 0),
     ("one node entry found in 8 bytes", |it| it.found() && it.wanted() == 8 && it.lent() == 8),
@@ -44,7 +51,7 @@ pub const AREAS: [Limit; 20] = [
     ("model refused 10 in as many bytes as wanted", |it| it.refused(10) && it.lent() == it.wanted()),
 ];
 
-pub const WANTED: [Limit; 11] = [
+pub const WANTED: [Limit; 12] = [
     ("none of a pattern refused 1", |it| it.wants_none(1)),
     ("none of a pattern refused 2", |it| it.wants_none(2)),
     ("none of a pattern refused 3", |it| it.wants_none(3)),
@@ -55,6 +62,9 @@ pub const WANTED: [Limit; 11] = [
     ("none of a pattern refused 8", |it| it.wants_none(8)),
     ("fewer than 8 for each entry, paths among them", |it| {
         it.asked().is_some_and(|bytes| bytes < SET * it.entries().len())
+    }),
+    ("more than 8 for each node entry but either", |it| {
+        it.asked().is_some_and(|bytes| bytes > it.wanted_but_either())
     }),
     ("8 of 255 entries", |it| it.asked() == Some(8) && it.entries().len() == 255),
     ("more than 8 for each node entry that the root reaches", |it| {
@@ -69,8 +79,13 @@ fn nodes_reached(pattern: &Pattern) -> usize {
 }
 
 impl Judged<'_> {
-    /// The bytes that are wanted for a pattern that was read; kinds from 8 on are paths.
+    /// The bytes that are wanted for a pattern that was read.
     fn wanted(&self) -> usize {
+        SET * self.entries().iter().filter(|entry| !is_path(entry)).count()
+    }
+
+    /// The bytes that would be wanted if entries of either, whose kind stands behind the paths, were paths.
+    fn wanted_but_either(&self) -> usize {
         SET * self.entries().iter().filter(|entry| entry[0] < 8).count()
     }
 

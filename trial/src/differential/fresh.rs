@@ -55,6 +55,17 @@ pub const FRESH: [Limit; 19] = [
     ("name fresh on both sides of a fork, closed", |it| it.brought.again != 0),
 ];
 
+/// The branch to which the steps before this one lead, of which none is refused.
+pub fn branch_before(input: &Input, place: usize) -> Vec<Line> {
+    let pattern = pattern::parse(&input.pattern).expect("it was read");
+    let tableau = tableau::parse(&pattern, &input.proposal).expect("its steps were walked");
+    let mut walk = Walk::begin(&pattern, tableau.start);
+    for step in &tableau.steps[..place] {
+        walk.take(step).expect("only a later one is refused");
+    }
+    walk.branch().to_vec()
+}
+
 /// The names 64 above or below these.
 fn apart(names: u128) -> u128 {
     names.rotate_left(64)
@@ -96,16 +107,12 @@ impl Had {
 
     /// The name that the step should bring, on the branch to which the steps before it lead.
     fn at_step(input: &Input, place: usize) -> Had {
-        let pattern = pattern::parse(&input.pattern).expect("it was read");
-        let tableau = tableau::parse(&pattern, &input.proposal).expect("its steps were walked");
-        let mut walk = Walk::begin(&pattern, tableau.start);
-        for step in &tableau.steps[..place] {
-            walk.take(step).expect("only the last is refused");
-        }
-        let name = tableau.steps[place].argument;
-        let mut lines: Vec<_> = walk.branch().iter().copied().enumerate().collect();
+        let step = &input.proposal[tableau::HEADER_BYTES + tableau::STEP_BYTES * place..];
+        let (name, branch) = (step[5], branch_before(input, place));
+        let length = branch.len();
+        let mut lines: Vec<_> = branch.into_iter().enumerate().collect();
         lines.retain(|(_, line)| line.has_name(name));
-        Had { lines, length: walk.branch().len(), ..Had::in_entries(input, name) }
+        Had { lines, length, ..Had::in_entries(input, name) }
     }
 
     /// The first line that has it.

@@ -1,5 +1,6 @@
 //! Document 01's limits, reached exactly and overstepped by one: which of them an input shows.
 
+use super::either::Parts;
 use super::ends::Led;
 use super::fresh::{Brought, Had};
 use super::rows::Kept;
@@ -21,6 +22,7 @@ pub struct Judged<'a> {
     pub(super) brought: Brought,
     pub(super) paths: Option<Kept>,
     pub(super) led: Option<Led>,
+    pub(super) parts: Vec<Parts>,
 }
 
 pub const LIMITS: [Limit; 51] = [
@@ -93,7 +95,8 @@ impl<'a> Judged<'a> {
         let (had, brought) = (Had::of(input, finding), Brought::of(input, finding));
         let paths = Kept::of(input, finding);
         let led = paths.as_ref().map(|kept| Led::of(input, kept));
-        Judged { input, finding, had, brought, paths, led }
+        let parts = paths.as_ref().map_or_else(Vec::new, |kept| Parts::of(input, kept));
+        Judged { input, finding, had, brought, paths, led, parts }
     }
 
     pub(super) fn refused(&self, number: u16) -> bool {
@@ -124,7 +127,7 @@ impl<'a> Judged<'a> {
     }
 
     /// The kind and first field of the entry that was refused with this number.
-    fn entry_refused(&self, number: u16) -> Option<[u8; 2]> {
+    pub(super) fn entry_refused(&self, number: u16) -> Option<[u8; 2]> {
         let entry = 6 + 4 * self.place(number)?;
         Some([self.input.pattern[entry], self.input.pattern[entry + 1]])
     }
@@ -163,7 +166,7 @@ impl<'a> Judged<'a> {
         self.input.proposal[first..].as_chunks().0
     }
 
-    fn steps(&self) -> std::slice::ChunksExact<'a, u8> {
+    pub(super) fn steps(&self) -> std::slice::ChunksExact<'a, u8> {
         self.input.proposal[HEADER_BYTES..].chunks_exact(STEP_BYTES)
     }
 
@@ -176,7 +179,7 @@ impl<'a> Judged<'a> {
     }
 
     /// The step that was refused with this number.
-    fn step_refused(&self, number: u16) -> Option<&'a [u8]> {
+    pub(super) fn step_refused(&self, number: u16) -> Option<&'a [u8]> {
         self.place(number).and_then(|place| self.steps().nth(place))
     }
 
@@ -196,7 +199,7 @@ impl<'a> Judged<'a> {
     }
 
     /// The most right sides that wait at once, of a closed tableau.
-    fn most_waiting(&self) -> usize {
+    pub(super) fn most_waiting(&self) -> usize {
         let (mut waiting, mut most) = (0usize, 0);
         for step in self.steps() {
             if says_fork(step[0]) {

@@ -1,5 +1,5 @@
-//! What a run must see: every finding, refusal, rule, limit and kind of input, each name refused in every way, and each
-//! length of area wanted.
+//! What a run must see: every finding, refusal, limit and kind of input, every rule often, each name refused in every
+//! way, and each length of area wanted.
 
 use super::names::EACH_NAME;
 use super::situations::{SITUATIONS, Situations};
@@ -8,6 +8,9 @@ use crate::generate::input::{Kind, Operation};
 use oracle::model;
 use oracle::pattern::MAX_NAME;
 use oracle::planner::builder::MAX_ENTRIES;
+
+/// Each rule must be used by one closed tableau for so many inputs.
+const INPUTS_FOR_A_RULE: u64 = 1000;
 
 impl Tally {
     /// What a run must have seen and this one hasn't.
@@ -54,7 +57,9 @@ impl Tally {
     /// Adds what must be seen of the rules.
     fn add_rules(&self, seen: &mut Vec<(u64, String)>) {
         for (number, rule) in self.rules.iter().enumerate().skip(1) {
-            seen.push((rule.closed, format!("rule {number} in a closed tableau")));
+            let times = rule.closed * INPUTS_FOR_A_RULE / self.inputs.max(1);
+            let often = format!("rule {number} in a closed tableau, once in {INPUTS_FOR_A_RULE} inputs");
+            seen.push((times, often));
             seen.push((rule.refused[0], format!("a step with rule {number} refused 20")));
             seen.push((rule.refused[1], format!("a step with rule {number} refused 21")));
         }

@@ -2,6 +2,7 @@
 
 use super::areas::{AREAS, WANTED};
 use super::edges::EDGES;
+use super::either::{ENTRIES, MEANING, RULES};
 use super::ends::ENDS;
 use super::fresh::FRESH;
 use super::limits::{LIMITS, Limit};
@@ -24,7 +25,7 @@ const READING: &[Operation] = &[Operation::Reading];
 const MODEL: &[Operation] = &[Operation::Model];
 const TABLEAU: &[Operation] = &[Operation::Tableau];
 
-pub const SITUATIONS: [Situations; 11] = [
+pub const SITUATIONS: [Situations; 14] = [
     Situations {
         heading: "limits",
         sort: "limit",
@@ -73,6 +74,19 @@ pub const SITUATIONS: [Situations; 11] = [
         sort: "slots",
         of: READING,
         shown: &SHARED,
+    },
+    Situations { heading: "entries of either", sort: "either", of: &Operation::OF_PATTERNS, shown: &ENTRIES },
+    Situations {
+        heading: "either in models: what the root reaches, and where its parts hold",
+        sort: "either in a model",
+        of: MODEL,
+        shown: &MEANING,
+    },
+    Situations {
+        heading: "either in tableaux: rules 24 and 25",
+        sort: "either in a tableau",
+        of: TABLEAU,
+        shown: &RULES,
     },
     Situations {
         heading: "older models put in order, and their destinations",

@@ -5,13 +5,14 @@ use super::names::EACH_NAME;
 use super::situations::{SITUATIONS, Situations};
 use crate::generate::input::{Input, Kind, Never, Operation};
 use oracle::finding::{Finding, Refusal};
+use oracle::tableau::rules::LAST_RULE;
 use oracle::tableau::{HEADER_BYTES, STEP_BYTES};
 use std::collections::{BTreeMap, BTreeSet, HashSet};
 use std::hash::{DefaultHasher, Hash, Hasher};
 
 /// The largest refusal number and the largest rule number.
 const REFUSALS: usize = 29;
-const RULES: usize = 23;
+const RULES: usize = LAST_RULE as usize;
 
 /// How many lengths of short files are counted: 0 to 10 bytes.
 const SHORT: usize = 11;

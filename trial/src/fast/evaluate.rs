@@ -3,7 +3,7 @@
 use super::axes::{self, Axes, predecessors};
 use super::compare::Columns;
 use super::model::Model;
-use super::pattern::{AFTER, BOTH, Entry, JUMP, NAME, NOT, PROPERTY, STEP, TEST};
+use super::pattern::{AFTER, BOTH, EITHER, Entry, JUMP, NAME, NOT, PROPERTY, STEP, TEST, is_path};
 use super::reach::Reach;
 use std::iter::zip;
 
@@ -55,7 +55,7 @@ impl Job<'_> {
         self.columns.add_end(&mut known.words[..known.width]);
         let mut root = 0;
         for (number, &entry) in self.entries.iter().enumerate() {
-            let is_node = entry[0] < STEP;
+            let is_node = !is_path(entry[0]);
             if !self.reach.needs(number) {
                 known.nodes += is_node as usize;
             } else if is_node {
@@ -77,6 +77,7 @@ impl Job<'_> {
             NAME => 1 << self.model.node(x),
             NOT => self.model.all() & !known.set(x),
             BOTH => known.set(x) & known.set(y),
+            EITHER => known.set(x) | known.set(y),
             AFTER => predecessors(axes.table(x), known.set(y)),
             _ => self.columns.compare(kind, x, known.columns(y), known.columns(z)),
         }

@@ -17,6 +17,7 @@ pub const STEP: u8 = 8;
 pub const JUMP: u8 = 9;
 pub const TEST: u8 = 10;
 pub const FORK: u8 = 11;
+pub const EITHER: u8 = 12;
 
 /// The path reference that means end of path.
 pub const END: u8 = 255;
@@ -41,32 +42,41 @@ const UP_TO_3: Field = Field { forbidden: !3, sort: 0 };
 const NODE: Field = Field { forbidden: 0, sort: NODE_SORT };
 const PATH: Field = Field { forbidden: 0, sort: PATH_SORT };
 
-/// The three fields of a kind, over the entry as a little-endian word.
+/// The three fields of a kind, over the entry as a little-endian word; its own sort stands in the place of the kind.
 pub struct Shape {
     forbidden: u32,
     sorts: u32,
 }
 
-const fn shape(x: Field, y: Field, z: Field) -> Shape {
+const fn shape(sort: u8, x: Field, y: Field, z: Field) -> Shape {
     Shape {
         forbidden: u32::from_le_bytes([0, x.forbidden, y.forbidden, z.forbidden]),
-        sorts: u32::from_le_bytes([0, x.sort, y.sort, z.sort]),
+        sorts: u32::from_le_bytes([sort, x.sort, y.sort, z.sort]),
     }
 }
 
-/// The table of kinds of document 01, from kind 1 on.
-const SHAPES: [Shape; 11] = [
-    shape(UP_TO_31, UNUSED, UNUSED),
-    shape(UP_TO_127, UNUSED, UNUSED),
-    shape(NODE, UNUSED, UNUSED),
-    shape(NODE, NODE, UNUSED),
-    shape(UP_TO_7, NODE, UNUSED),
-    shape(UP_TO_3, PATH, PATH),
-    shape(UP_TO_3, PATH, PATH),
-    shape(UP_TO_7, PATH, UNUSED),
-    shape(UP_TO_127, PATH, UNUSED),
-    shape(NODE, PATH, UNUSED),
-    shape(PATH, PATH, UNUSED),
+const fn node(x: Field, y: Field, z: Field) -> Shape {
+    shape(NODE_SORT, x, y, z)
+}
+
+const fn path(x: Field, y: Field, z: Field) -> Shape {
+    shape(PATH_SORT, x, y, z)
+}
+
+/// The table of kinds of document 01, from kind 1 on, with document 02's either.
+const SHAPES: [Shape; 12] = [
+    node(UP_TO_31, UNUSED, UNUSED),
+    node(UP_TO_127, UNUSED, UNUSED),
+    node(NODE, UNUSED, UNUSED),
+    node(NODE, NODE, UNUSED),
+    node(UP_TO_7, NODE, UNUSED),
+    node(UP_TO_3, PATH, PATH),
+    node(UP_TO_3, PATH, PATH),
+    path(UP_TO_7, PATH, UNUSED),
+    path(UP_TO_127, PATH, UNUSED),
+    path(NODE, PATH, UNUSED),
+    path(PATH, PATH, UNUSED),
+    node(NODE, NODE, UNUSED),
 ];
 
 /// The entries of a pattern, or refusals 1 to 8.
@@ -99,11 +109,11 @@ fn checked(entry: Entry, sorts: &[u8; 256]) -> Result<u8, u16> {
     if u32::from_le_bytes(entry) & shape.forbidden != 0 {
         return Err(5);
     }
-    let found = u32::from_le_bytes([0, sorts[x as usize], sorts[y as usize], sorts[z as usize]]);
+    let found = u32::from_le_bytes([0xff, sorts[x as usize], sorts[y as usize], sorts[z as usize]]);
     if shape.sorts & !found != 0 {
         return Err(6);
     }
-    Ok(if kind < STEP { NODE_SORT } else { PATH_SORT })
+    Ok(shape.sorts as u8)
 }
 
 /// Twice as many slots as a pattern can have entries.
@@ -129,6 +139,21 @@ impl Seen {
     }
 }
 
+/// The kinds of paths, as bits.
+const PATHS: u32 = {
+    let (mut paths, mut kind) = (0, 1);
+    while kind <= SHAPES.len() {
+        paths |= ((SHAPES[kind - 1].sorts as u8 == PATH_SORT) as u32) << kind;
+        kind += 1;
+    }
+    paths
+};
+
+/// Whether entries of a kind are paths.
+pub fn is_path(kind: u8) -> bool {
+    PATHS >> (kind & 31) & 1 == 1
+}
+
 /// Which of x, y, z are references.
 pub fn references(kind: u8) -> [bool; 3] {
     let [_, x, y, z] = SHAPES[kind as usize - 1].sorts.to_le_bytes();
@@ -137,7 +162,7 @@ pub fn references(kind: u8) -> [bool; 3] {
 
 /// The number of node entries, reached or not.
 pub fn node_count(entries: &[Entry]) -> usize {
-    entries.iter().filter(|entry| entry[0] < STEP).count()
+    entries.iter().filter(|entry| !is_path(entry[0])).count()
 }
 
 /// The names used in the pattern, reached or not, as a set of bits.

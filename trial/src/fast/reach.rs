@@ -1,6 +1,6 @@
 //! What the root's meaning needs: the entries that it reaches, and their axes and channels.
 
-use super::pattern::{AFTER, DIFFER, Entry, SAME, STEP, references};
+use super::pattern::{AFTER, DIFFER, Entry, SAME, STEP, is_path, references};
 
 pub struct Reach {
     /// By entry number; the last place stands for end of path.
@@ -33,7 +33,7 @@ impl Reach {
         self.needed[x as usize] |= in_x;
         self.needed[y as usize] |= in_y;
         self.needed[z as usize] |= in_z;
-        self.paths += (kind >= STEP) as usize;
+        self.paths += is_path(kind) as usize;
         self.axes |= u8::from(kind == AFTER || kind == STEP) << (x & 7);
         self.channels |= u8::from(kind == SAME || kind == DIFFER) << (x & 7);
     }

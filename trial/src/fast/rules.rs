@@ -1,8 +1,8 @@
-//! Rules 1 to 20: the new lines that a rule concludes from its premises; rules 21 to 23: whether they clash.
+//! Rules 1 to 20, 24 and 25: the new lines that a rule concludes from its premises; rules 21 to 23: whether they clash.
 //! `None` and false where lines or argument don't fit.
 
 use super::line::{COMPARE, DIFFERENT, HAS, IS, Line, NEGATIVE};
-use super::pattern::{AFTER, BOTH, DIFFER, END, Entry, FORK, JUMP, NAME, NOT, SAME, STEP, TEST};
+use super::pattern::{AFTER, DIFFER, END, Entry, FORK, JUMP, NAME, NOT, SAME, STEP, TEST};
 
 pub const LACKS: u8 = HAS | NEGATIVE;
 pub const BARRED: u8 = COMPARE | NEGATIVE;
@@ -53,9 +53,9 @@ impl Premises<'_> {
         Some(self.p.turned(NEGATIVE).with_entry(x))
     }
 
-    /// Rules 2 and 3: P has (lacks) both.
-    pub fn both(&self, form: u8) -> Option<(Line, Line)> {
-        let [_, x, y, _] = self.noted(form, BOTH)?;
+    /// Rules 2, 3, 24 and 25: P has (lacks) both or either, as the kind says.
+    pub fn parts(&self, form: u8, kind: u8) -> Option<(Line, Line)> {
+        let [_, x, y, _] = self.noted(form, kind)?;
         Some((self.p.with_entry(x), self.p.with_entry(y)))
     }
 

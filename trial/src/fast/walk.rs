@@ -1,10 +1,11 @@
 //! The walk along the branches of a tableau, one step after the other: closed, or refusals 19 to 26.
 
 use super::line::{COMPARE, HAS, Line};
-use super::pattern::Entry;
+use super::pattern::{BOTH, EITHER, Entry};
 use super::rules::{BARRED, LACKS, Premises};
 use oracle::finding::{Finding, Refusal};
 
+const LAST_RULE: u8 = 25;
 const MOST_LINES: usize = 1024;
 const MOST_WAITING: usize = 64;
 
@@ -74,9 +75,9 @@ const fn word([rule, p_low, p_high, q_low, q_high, argument]: Step) -> u64 {
 }
 
 /// For each rule the fields of a step that it doesn't use.
-const UNUSED: [u64; 24] = {
+const UNUSED: [u64; LAST_RULE as usize + 1] = {
     let (q, argument) = (word([0, 0, 0, 255, 255, 0]), word([0, 0, 0, 0, 0, 255]));
-    let mut unused = [q | argument; 24];
+    let mut unused = [q | argument; LAST_RULE as usize + 1];
     (unused[5], unused[14], unused[18], unused[19]) = (q, q, q, 0);
     (unused[6], unused[15]) = (argument, argument);
     (unused[20], unused[21], unused[22]) = (argument, argument, argument);
@@ -87,7 +88,7 @@ impl Walk<'_> {
     #[inline(always)]
     fn step(&mut self, entries: &[Entry], step: Step) -> Result<(), u16> {
         let [rule, p_low, p_high, q_low, q_high, argument] = step;
-        if !(1..=23).contains(&rule) {
+        if !(1..=LAST_RULE).contains(&rule) {
             return Err(19);
         }
         let p = u16::from_le_bytes([p_low, p_high]) as usize;
@@ -104,8 +105,8 @@ impl Walk<'_> {
     fn conclude(&mut self, rule: u8, premises: &Premises) -> Result<(), u16> {
         match rule {
             1 => self.one(premises.not()),
-            2 => self.two(premises.both(HAS)),
-            3 => self.fork(premises.both(LACKS)),
+            2 => self.two(premises.parts(HAS, BOTH)),
+            3 => self.fork(premises.parts(LACKS, BOTH)),
             4 => self.one(premises.name()),
             5 => self.two_with_name(premises.after_holding(), premises.argument),
             6 => self.one(premises.after_lacking()),
@@ -125,7 +126,9 @@ impl Walk<'_> {
             20 => self.one(premises.chained()),
             21 => self.clash(premises.opposites()),
             22 => self.clash(premises.same_and_differ()),
-            _ => self.clash(premises.unlike_itself()),
+            23 => self.clash(premises.unlike_itself()),
+            24 => self.fork(premises.parts(HAS, EITHER)),
+            _ => self.two(premises.parts(LACKS, EITHER)),
         }
     }
 

@@ -83,13 +83,13 @@ impl Area {
 }
 
 /// The length of an area for judging a model of the pattern: mostly what is wanted, often a byte more, or up to a byte
-/// over a set more or less; now and then what would be wanted if paths counted too, if only what the root reaches did, or for any
-/// pattern; else any.
+/// over a set more or less; now and then what would be wanted if paths counted too, if only what the root reaches did,
+/// if either didn't, or for any pattern; else any.
 fn length_for(random: &mut Random, pattern: &Pattern) -> usize {
     let wanted = model::area(pattern);
     let set = wanted / pattern.node_entries();
     let near = random.between(1, set + 1);
-    match random.below(48) {
+    match random.below(49) {
         0 => random.pick(&BORDERS),
         1 => random.between(0, LONGEST_AREA),
         2..4 => wanted - 1,
@@ -98,11 +98,12 @@ fn length_for(random: &mut Random, pattern: &Pattern) -> usize {
         6 => set * pattern.entries.len(),
         7 => set * reached(pattern).count(),
         8 => set * reached(pattern).filter(|entry| !entry.is_path()).count(),
-        9 => model::AREA,
-        10..13 => wanted + near,
-        13..15 => random.between(wanted, model::AREA),
-        15..20 => random.between(wanted, LONGEST_AREA),
-        20..30 => wanted + 1,
+        9 => set * but_either(pattern),
+        10 => model::AREA,
+        11..14 => wanted + near,
+        14..16 => random.between(wanted, model::AREA),
+        16..21 => random.between(wanted, LONGEST_AREA),
+        21..31 => wanted + 1,
         _ => wanted,
     }
 }
@@ -110,4 +111,9 @@ fn length_for(random: &mut Random, pattern: &Pattern) -> usize {
 /// The entries that the root reaches.
 fn reached(pattern: &Pattern) -> impl Iterator<Item = &Entry> {
     pattern.entries.iter().zip(pattern.reached()).filter(|(_, reached)| *reached).map(|(entry, _)| entry)
+}
+
+/// How many node entries aren't either.
+fn but_either(pattern: &Pattern) -> usize {
+    pattern.entries.iter().filter(|entry| !entry.is_path() && !matches!(entry, Entry::Either(..))).count()
 }

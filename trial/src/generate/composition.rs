@@ -31,7 +31,7 @@ impl Composer<'_> {
         match self.random.below(6) {
             0 | 1 => {
                 let other = self.compose(levels - 1);
-                self.either(part, other)
+                either(self.random, &mut self.builder, part, other)
             }
             2 => self.builder.after(number, part),
             3 => {
@@ -50,10 +50,15 @@ impl Composer<'_> {
             }
         }
     }
+}
 
-    fn either(&mut self, phi: usize, psi: usize) -> usize {
-        let (not_phi, not_psi) = (self.builder.not(phi), self.builder.not(psi));
-        let neither = self.builder.both(not_phi, not_psi);
-        self.builder.not(neither)
+/// Either of two nodes; now and then as three nots and a both, as it was written before it was a kind.
+pub fn either(random: &mut Random, builder: &mut Builder, phi: usize, psi: usize) -> usize {
+    if random.once_in(3) {
+        let (not_phi, not_psi) = (builder.not(phi), builder.not(psi));
+        let neither = builder.both(not_phi, not_psi);
+        builder.not(neither)
+    } else {
+        builder.either(phi, psi)
     }
 }

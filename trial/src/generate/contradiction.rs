@@ -1,5 +1,6 @@
 //! Patterns that can't occur: something, and not what follows from it.
 
+use super::composition::either;
 use oracle::pattern::{Comparison, Entry, Path, Pattern};
 use oracle::planner::builder::{Builder, END};
 use oracle::random::Random;
@@ -32,7 +33,17 @@ struct Maker<'a> {
 }
 
 impl Maker<'_> {
+    /// A variant of a node entry; what follows from it is now and then that or something else.
     fn node(&mut self, number: usize, way: Way) -> usize {
+        let variant = self.variant(number, way);
+        if way == Way::Stronger || !self.random.once_in(8) {
+            return variant;
+        }
+        let else_ = self.builder.property(self.random.below(32) as u8);
+        self.builder.either(variant, else_)
+    }
+
+    fn variant(&mut self, number: usize, way: Way) -> usize {
         match self.pattern.entries[number] {
             Entry::Property(property) => self.builder.property(property),
             Entry::Name(name) => self.builder.name(name),
@@ -47,6 +58,15 @@ impl Maker<'_> {
                     1 if way == Way::Weaker => psi,
                     2 => self.builder.both(psi, phi),
                     _ => self.builder.both(phi, psi),
+                }
+            }
+            Entry::Either(phi, psi) => {
+                let (phi, psi) = (self.node(phi, way), self.node(psi, way));
+                match self.random.below(4) {
+                    0 if way == Way::Stronger => phi,
+                    1 if way == Way::Stronger => psi,
+                    2 => self.builder.either(psi, phi),
+                    _ => either(self.random, &mut self.builder, phi, psi),
                 }
             }
             Entry::After(axis, phi) => {

@@ -22,11 +22,15 @@ struct Crowd<'r> {
 
 impl Crowd<'_> {
     fn statement(&mut self) -> usize {
-        let statement = match self.random.below(8) {
+        let statement = match self.random.below(9) {
             0 | 1 => self.builder.name(self.random.below(3) as u8),
             2 => {
                 let property = self.builder.property(0);
                 self.builder.after(self.random.below(2) as u8, property)
+            }
+            3 => {
+                let (one, other) = (self.comparison(), self.comparison());
+                self.builder.either(one, other)
             }
             _ => self.comparison(),
         };

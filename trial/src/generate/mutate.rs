@@ -10,8 +10,8 @@ pub enum Sort {
     Tableau,
 }
 
-/// Values at which an answer may change: the limits of document 01's fields and their neighbours.
-pub const BORDERS: [u8; 16] = [0, 1, 2, 3, 4, 7, 8, 11, 12, 31, 32, 63, 127, 128, 254, 255];
+/// Values at which an answer may change: the limits of fields, kinds and rules, and their neighbours.
+pub const BORDERS: [u8; 19] = [0, 1, 2, 3, 4, 7, 8, 11, 12, 13, 25, 26, 31, 32, 63, 127, 128, 254, 255];
 
 /// A row of records of one size in a file, and the header field that counts them.
 #[derive(Clone, Copy, Debug)]
@@ -33,7 +33,7 @@ struct Counter {
 pub fn mutate(random: &mut Random, sort: Sort, file: &mut Vec<u8>) {
     let times = if random.once_in(4) { random.between(2, 3) } else { 1 };
     for _ in 0..times {
-        match random.below(10) {
+        match random.below(12) {
             0..3 => change_byte(random, file),
             3 => change_length(random, file),
             4 => lie(random, sort, file),
@@ -41,6 +41,7 @@ pub fn mutate(random: &mut Random, sort: Sort, file: &mut Vec<u8>) {
             6 => drop(random, sort, file),
             7 => repeat(random, sort, file),
             8 if sort == Sort::Tableau => exchange_lines(random, file),
+            9 | 10 if sort == Sort::Tableau => exchange_rule(random, file),
             _ => change_field(random, sort, file),
         }
     }
@@ -126,6 +127,21 @@ fn exchange_lines(random: &mut Random, file: &mut [u8]) {
     let step = if random.once_in(2) { last } else { records.any(random) };
     file.swap(step + 1, step + 3);
     file.swap(step + 2, step + 4);
+}
+
+/// Gives a step of a rule for both or either another of these rules.
+fn exchange_rule(random: &mut Random, file: &mut [u8]) {
+    let Some(records) = records(random, Sort::Tableau, file) else { return };
+    let mut rules = [2, 3, 24, 25];
+    random.shuffle(&mut rules);
+    let steps = |rule: u8| {
+        let steps = (records.first..records.end()).step_by(records.size);
+        steps.filter(|&step| file[step] == rule).collect::<Vec<usize>>()
+    };
+    if let Some(steps) = rules.map(steps).into_iter().find(|steps| !steps.is_empty()) {
+        let step = random.pick(&steps);
+        file[step] = rules.into_iter().rfind(|rule| *rule != file[step]).expect("there are four rules");
+    }
 }
 
 /// Changes one byte of a record.

@@ -210,7 +210,8 @@ impl Making<'_> {
         let order = self.random.pick(&[Order::Any, Order::OldestLast, Order::NewestLast]);
         while self.loose.len() > 1 {
             let (one, other) = (self.take_loose(order), self.take_loose(order));
-            self.add(Entry::Both(one, other));
+            let joint = self.random.pick(&[Entry::Both(one, other), Entry::Either(one, other)]);
+            self.add(joint);
             if self.random.below(self.loose.len()) < self.room() && self.random.below(4) < 3 {
                 self.add(Entry::Not(self.entries.len() - 1));
             }

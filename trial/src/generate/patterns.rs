@@ -121,13 +121,14 @@ impl Draft {
     }
 
     fn node_entry(&self, random: &mut Random) -> Entry {
-        let kinds = if self.nodes.is_empty() { 4 } else { 10 };
+        let kinds = if self.nodes.is_empty() { 4 } else { 12 };
         match random.below(kinds) {
             0 => Entry::Property(random.below(self.vocabulary.properties) as u8),
             1 => Entry::Name(random.below(self.vocabulary.names) as u8),
             2 | 3 => self.comparison(random),
             4 | 5 => Entry::Not(recent(random, &self.nodes)),
             6 | 7 => Entry::Both(recent(random, &self.nodes), recent(random, &self.nodes)),
+            8 | 9 => Entry::Either(recent(random, &self.nodes), recent(random, &self.nodes)),
             _ => Entry::After(random.below(self.vocabulary.axes) as u8, recent(random, &self.nodes)),
         }
     }

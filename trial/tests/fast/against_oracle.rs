@@ -1,11 +1,12 @@
 //! The fast implementation against the independent one, on inputs of the benchmark, many of them mutated.
 
 use oracle::model::{self, area_wanted};
+use oracle::pattern::{Entry, Pattern};
 use oracle::random::Random;
 use trial::benchmark::case::{Case, Proposal};
 use trial::benchmark::inputs::models::{self, Size, random_model};
 use trial::benchmark::inputs::older::{self, older};
-use trial::benchmark::inputs::tableaux::{self, Fresh, workshop};
+use trial::benchmark::inputs::tableaux::{self, Fresh, workshop, workshop_of_either};
 use trial::benchmark::inputs::{patterns, readings};
 use trial::benchmark::judge::{FAST, ORACLE};
 
@@ -60,7 +61,8 @@ fn models_that_are_timed_are_judged() {
 fn models_of_every_shape_of_pattern() {
     let shapes = [
         patterns::typical(),
-        patterns::shared_nodes(40),
+        patterns::shared_nodes(40, Entry::Both),
+        patterns::shared_nodes(40, Entry::Either),
         patterns::shared_forks(40),
         patterns::long_path(20, 3),
         patterns::long_after(20),
@@ -167,21 +169,27 @@ fn mutated_older_models() {
     }
 }
 
-#[test]
-fn mutated_tableaux() {
-    let pattern = workshop(40);
+/// Mutates tableaux of many shapes for a workshop.
+fn agree_of_workshop(pattern: &Pattern) {
     let fresh = Fresh { rule: 5, lines: 10, mixed: false, leaves: 5, names: 4 };
     let shapes = [
-        tableaux::exchanges(&pattern, 100),
-        tableaux::forks(&pattern, 100),
-        tableaux::nested(&pattern, 0, 64, |_| ()),
-        tableaux::nested(&pattern, 30, 0, |_| ()),
-        tableaux::fresh(&pattern, fresh),
-        tableaux::fresh(&pattern, Fresh { rule: 14, ..fresh }),
-        tableaux::fresh(&pattern, Fresh { mixed: true, ..fresh }),
+        tableaux::exchanges(pattern, 100),
+        tableaux::chains(pattern, 100),
+        tableaux::forks(pattern, 100),
+        tableaux::nested(pattern, 0, 64, |_| ()),
+        tableaux::nested(pattern, 30, 0, |_| ()),
+        tableaux::fresh(pattern, fresh),
+        tableaux::fresh(pattern, Fresh { rule: 14, ..fresh }),
+        tableaux::fresh(pattern, Fresh { mixed: true, ..fresh }),
     ];
     for tableau in shapes {
-        agree_mutated(&Case::tableau("workshop", &pattern, &tableau), 500);
+        agree_mutated(&Case::tableau("workshop", pattern, &tableau), 500);
     }
+}
+
+#[test]
+fn mutated_tableaux() {
+    agree_of_workshop(&workshop(40));
+    agree_of_workshop(&workshop_of_either());
     agree_mutated(&tableaux::cases()[0], 4000);
 }

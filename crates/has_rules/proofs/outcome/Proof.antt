@@ -46,6 +46,12 @@ rule21-requires c κs = search needs
 clash-if-requires : tie.Need-clash-if-requires
 clash-if-requires c κs = search needs
 
+rule24-requires : tie.Need-rule24-requires
+rule24-requires c κs = search needs
+
+rule25-requires : tie.Need-rule25-requires
+rule25-requires c κs = search needs
+
 returns : tie.Need-returns
 unfolding ruleAt
 returns c =
@@ -105,7 +111,21 @@ returns-8 c =
     (c .clash-if .ensures ∙ rw (l .load2 .ensures) at (c .before .rule21 .ensures))
 
 returns-9 : tie.Need-returns-9
+unfolding ruleAt
 returns-9 c =
+    let s = c .before .before in
+    let a = s .before .before .before .args in
+    of-rule (a .p .now) (Line.Has (a .h)) (lineAt (a .area .now) (a .q)) (a .argument) (c .before .match .keys9) (rw (s .at .ensures) at (c .rule24 .ensures))
+
+returns-10 : tie.Need-returns-10
+unfolding ruleAt
+returns-10 c =
+    let s = c .before .before in
+    let a = s .before .before .before .args in
+    of-rule (a .p .now) (Line.Has (a .h)) (lineAt (a .area .now) (a .q)) (a .argument) (c .before .match .keys10) (rw (s .at .ensures) at (c .rule25 .ensures))
+
+returns-11 : tie.Need-returns-11
+returns-11 c =
     let a = c .before .before .before .before .args in
     sym (has-unfit (a .p .now) (a .h) (lineAt (a .area .now) (a .q)) (a .argument) (a .rule) (c .match .rest))
 
@@ -125,6 +145,8 @@ outcome-spec =
     load-requires-2
     rule21-requires
     clash-if-requires
+    rule24-requires
+    rule25-requires
     returns
     returns-2
     returns-3
@@ -133,4 +155,6 @@ outcome-spec =
     returns-6
     returns-7
     returns-8
-    returns-9)
+    returns-9
+    returns-10
+    returns-11)

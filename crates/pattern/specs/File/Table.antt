@@ -1,4 +1,5 @@
--- 01's table of entries, "Pattern file": the kinds by number, which are nodes and which paths, and what the fields of each hold.
+-- 01's table of entries, "Pattern file", and the row that 02's Job 6 adds: the kinds by number, which are nodes and which paths, and what
+-- the fields of each hold.
 -- Assumes nothing.
 use mathlib.Core.Path.{_≡_, refl, sym, _∙_, ap}
 use mathlib.Core.Bool.{Bool, true, false, false≢true}
@@ -13,17 +14,17 @@ use Rattle.pattern.specs.declared.table.Sort.{Sort}
 use Rattle.pattern.specs.declared.table.Field.{Field}
 use Rattle.pattern.specs.declared.table.Form.{Form}
 
--- the kinds from number 1 on, in 01's order
+-- the kinds from number 1 on, in 01's order and 02's
 abbrev pub kinds : List Kind
 kinds =
     Kind.Property ∷ Kind.Name ∷ Kind.Not ∷ Kind.Both ∷ Kind.After ∷ Kind.Same ∷ Kind.Differ
-    ∷ Kind.Step ∷ Kind.Jump ∷ Kind.Test ∷ Kind.Fork ∷ []
+    ∷ Kind.Step ∷ Kind.Jump ∷ Kind.Test ∷ Kind.Fork ∷ Kind.Either ∷ []
 
 abbrev pub kindOf : ℕ → Kind
 kindOf zero = Kind.Unknown
 kindOf (suc n) = getD kinds n Kind.Unknown
 
--- 01's number of each kind; 0 is of none
+-- the documents' number of each kind; 0 is of none
 abbrev pub kindNumber : Kind → ℕ
 kindNumber Kind.Property = 1
 kindNumber Kind.Name = 2
@@ -36,6 +37,7 @@ kindNumber Kind.Step = 8
 kindNumber Kind.Jump = 9
 kindNumber Kind.Test = 10
 kindNumber Kind.Fork = 11
+kindNumber Kind.Either = 12
 kindNumber Kind.Unknown = 0
 
 abbrev pub sameKind : Kind → Kind → Bool
@@ -45,7 +47,7 @@ sameKind κ κ′ = eqb (kindNumber κ) (kindNumber κ′)
 abbrev pub endOfPath : ℕ
 endOfPath = 255
 
--- "Kinds 1 to 7 are nodes, 8 to 11 paths."
+-- "Kinds 1 to 7 are nodes, 8 to 11 paths." 02: "node kind 12, either"
 abbrev pub sortOf : Kind → Sort
 sortOf Kind.Property = Sort.Node
 sortOf Kind.Name = Sort.Node
@@ -58,12 +60,14 @@ sortOf Kind.Step = Sort.Path
 sortOf Kind.Jump = Sort.Path
 sortOf Kind.Test = Sort.Path
 sortOf Kind.Fork = Sort.Path
+sortOf Kind.Either = Sort.Node
 sortOf Kind.Unknown = Sort.Neither
 
 abbrev row : Field → Field → Field → Form
 row a b c = record { x = a; y = b; z = c }
 
--- the rows of the table. φ, ψ are node references, α, β path references. "Fields not listed are zero."
+-- the rows of the table. φ, ψ are node references, α, β path references. "Fields not listed are zero." 02: "either, with x and y node
+-- references"
 abbrev pub formOf : Kind → Form
 formOf Kind.Property = row Field.Property Field.Unused Field.Unused
 formOf Kind.Name = row Field.Name Field.Unused Field.Unused
@@ -76,6 +80,7 @@ formOf Kind.Step = row Field.Axis Field.Path Field.Unused
 formOf Kind.Jump = row Field.Name Field.Path Field.Unused
 formOf Kind.Test = row Field.Node Field.Path Field.Unused
 formOf Kind.Fork = row Field.Path Field.Path Field.Unused
+formOf Kind.Either = row Field.Node Field.Node Field.Unused
 formOf Kind.Unknown = row Field.Unused Field.Unused Field.Unused
 
 abbrev pub isNeither : Sort → Bool
@@ -106,6 +111,7 @@ kind-of-number Kind.Step = refl
 kind-of-number Kind.Jump = refl
 kind-of-number Kind.Test = refl
 kind-of-number Kind.Fork = refl
+kind-of-number Kind.Either = refl
 kind-of-number Kind.Unknown = refl
 
 pub same-kind : (κ κ′ : Kind) → sameKind κ κ′ ≡ true → κ ≡ κ′

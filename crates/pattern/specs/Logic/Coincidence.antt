@@ -16,6 +16,7 @@ abbrev mutual
   OfNames P (NExp.name i) = P i
   OfNames P (NExp.not φ) = OfNames P φ
   OfNames P (NExp.both φ ψ) = OfNames P φ × OfNames P ψ
+  OfNames P (NExp.either φ ψ) = OfNames P φ × OfNames P ψ
   OfNames P (NExp.after a φ) = OfNames P φ
   OfNames P (NExp.compare c e α β) = OfNamesP P α × OfNamesP P β
 
@@ -33,6 +34,7 @@ module _ (M : Model) (g h : Naming M) where
     same-holds (NExp.name i) e x = λ k. e k ≡ x
     same-holds (NExp.not φ) e x = λ k. same-holds φ e x k → ⊥
     same-holds (NExp.both φ ψ) e x = λ k. same-holds φ (e .0) x k × same-holds ψ (e .1) x k
+    same-holds (NExp.either φ ψ) e x = λ k. same-holds φ (e .0) x k ⊎ same-holds ψ (e .1) x k
     same-holds (NExp.after a φ) e x = λ k. (y : M .Node) × (M .edge a x y × same-holds φ e y k)
     same-holds (NExp.compare c d α β) e x =
         λ k. (y : M .Node) × ((z : M .Node) × (same-leads α (e .0) x y k × same-leads β (e .1) x z k × Compared M c d y z))

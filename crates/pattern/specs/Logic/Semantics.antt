@@ -52,6 +52,8 @@ abbrev mutual
   Holds M nom (NExp.not φ) x = Holds M nom φ x → ⊥
   -- M, x ⊨ φ ∧ ψ iff M, x ⊨ φ and M, x ⊨ ψ
   Holds M nom (NExp.both φ ψ) x = Holds M nom φ x × Holds M nom ψ x
+  -- M, x ⊨ φ ∨ ψ iff M, x ⊨ φ or M, x ⊨ ψ. 02: "it holds where at least one part holds"
+  Holds M nom (NExp.either φ ψ) x = Holds M nom φ x ⊎ Holds M nom ψ x
   -- 002, definition 2.3: M, x ⊨ ⟨a⟩φ iff there is some y s.t. x → y on a and M, y ⊨ φ
   Holds M nom (NExp.after a φ) x = (y : M .Node) × (M .edge a x y × Holds M nom φ y)
   -- M, x ⊨ ⟨α = β⟩ iff there are y, z ∈ M s.t. M, x, y ⊨ α, M, x, z ⊨ β and y ∼ z; ⟨α ≠ β⟩ likewise with y ≁ z

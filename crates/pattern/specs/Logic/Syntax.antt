@@ -1,17 +1,18 @@
--- The language: source 000's definition 2, HXPath= with composition, over several axes and data channels, and with the direct
--- "after" of source 002 (its diamond). Names, properties, axes and channels are numbers; the limits on them are the file's.
+-- The language: source 000's definition 2, HXPath= with composition, over several axes and data channels, with the direct "after" of
+-- source 002 (its diamond) and 02's "either" (Job 6). Names, properties, axes and channels are numbers; the limits on them are the file's.
 -- Assumes nothing.
 use Prim.Native.Nat.{ℕ}
 use Rattle.pattern.specs.declared.types.Comparison.{Comparison}
 
 mutual
-  -- NExp ::= p | i | ¬φ | φ ∧ ψ | ⟨α = β⟩ | ⟨α ≠ β⟩, and 002's ⟨a⟩φ before the last two. 000: "we will always use * for = and ≠"; here *
-  -- is a comparison.
+  -- NExp ::= p | i | ¬φ | φ ∧ ψ | ⟨α = β⟩ | ⟨α ≠ β⟩, and before the last two φ ∨ ψ, a case of its own, and 002's ⟨a⟩φ. 000: "we will
+  -- always use * for = and ≠"; here * is a comparison.
   pub data NExp : Type 0 where
     property : ℕ → NExp
     name : ℕ → NExp
     not : NExp → NExp
     both : NExp → NExp → NExp
+    either : NExp → NExp → NExp
     after : ℕ → NExp → NExp
     compare : Comparison → ℕ → PExp → PExp → NExp
 

@@ -52,6 +52,7 @@ module _ (M : Model) (nom : Naming M) where
     node-agrees Kind.Jump s u = absurd (path-no-node s)
     node-agrees Kind.Test s u = absurd (path-no-node s)
     node-agrees Kind.Fork s u = absurd (path-no-node s)
+    node-agrees Kind.Either s u = Iff·rfl
     node-agrees Kind.Unknown s u = absurd (neither-no-node s)
 
     path-agrees : (κ : Kind) → sortOf κ ≡ Sort.Path → (u v : M .Node)
@@ -68,6 +69,7 @@ module _ (M : Model) (nom : Naming M) where
     path-agrees Kind.Test s u v =
         (λ h. (h .1 .0 .1, subst (λ (w : M .Node). LeadsBy y w v) (sym (h .1 .0 .0)) (h .1 .1)), λ h. (u, ((refl, h .0), h .1)))
     path-agrees Kind.Fork s u v = Iff·rfl
+    path-agrees Kind.Either s u v = absurd (path-no-node (sym s))
     path-agrees Kind.Unknown s u v = absurd (neither-no-path s)
 
   -- 01's reading of the entries of a pattern that was read is 000's satisfaction of their expressions

@@ -1,5 +1,5 @@
--- 01's reading of an entry ("Meaning"), clause by clause, in its words. The promises are stated by source 000's clauses (`Logic.Semantics`);
--- that these say the same is `published`.
+-- 01's reading of an entry ("Meaning"), clause by clause, in its words, and 02's of either (Job 6). The promises are stated by source 000's
+-- clauses (`Logic.Semantics`); that these say the same is `published`.
 -- Assumes nothing.
 use mathlib.Core.Path.{_≡_}
 use mathlib.Core.Logic.{_⊎_, _↔_}
@@ -28,6 +28,8 @@ module _ (M : Model) (nom : Naming M) where
   NodeMeans H L Kind.Jump x y z u = ⊥
   NodeMeans H L Kind.Test x y z u = ⊥
   NodeMeans H L Kind.Fork x y z u = ⊥
+  -- 02: "it holds where at least one part holds"
+  NodeMeans H L Kind.Either x y z u = H x u ⊎ H y u
   NodeMeans H L Kind.Unknown x y z u = ⊥
 
   -- "From node u", a path entry leads to node v. A node entry is never asked.
@@ -48,6 +50,7 @@ module _ (M : Model) (nom : Naming M) where
   PathMeans H L Kind.Test x y z u v = H x u × L y u v
   -- "fork to the ends of either path"
   PathMeans H L Kind.Fork x y z u v = L x u v ⊎ L y u v
+  PathMeans H L Kind.Either x y z u v = ⊥
   PathMeans H L Kind.Unknown x y z u v = ⊥
 
   -- "What a node entry means and where a path leads are defined by each other": H and L are the meanings of the entries of a pattern if

@@ -36,6 +36,7 @@ nodeExpression Kind.Step x y z N P = truth
 nodeExpression Kind.Jump x y z N P = truth
 nodeExpression Kind.Test x y z N P = truth
 nodeExpression Kind.Fork x y z N P = truth
+nodeExpression Kind.Either x y z N P = NExp.either (N x) (N y)
 nodeExpression Kind.Unknown x y z N P = truth
 
 -- The same of a path entry: "Source 000's composition is carried by the rest of each path." A node entry is no path, and what
@@ -52,6 +53,7 @@ pathExpression Kind.Step x y z N P = PExp.compose (PExp.down x) (P y)
 pathExpression Kind.Jump x y z N P = PExp.compose (PExp.jump x) (P y)
 pathExpression Kind.Test x y z N P = PExp.compose (PExp.test (N x)) (P y)
 pathExpression Kind.Fork x y z N P = PExp.union (P x) (P y)
+pathExpression Kind.Either x y z N P = end
 pathExpression Kind.Unknown x y z N P = end
 
 -- "A path reference 255 means end of path."
@@ -102,6 +104,7 @@ module _ (N N′ : ℕ → NExp) (P P′ : ℕ → PExp) (x y z : ℕ) where
   node-same Kind.Jump h = refl
   node-same Kind.Test h = refl
   node-same Kind.Fork h = refl
+  node-same Kind.Either h = ap₂ NExp.either (h .0) (h .1)
   node-same Kind.Unknown h = refl
 
   path-same : (κ : Kind) → OfReferences (λ v. N v ≡ N′ v) (λ v. P v ≡ P′ v) (record { kind = κ; x = x; y = y; z = z })
@@ -117,6 +120,7 @@ module _ (N N′ : ℕ → NExp) (P P′ : ℕ → PExp) (x y z : ℕ) where
   path-same Kind.Jump h = ap (PExp.compose (PExp.jump x)) (h .1)
   path-same Kind.Test h = ap₂ (λ (φ : NExp) (α : PExp). PExp.compose (PExp.test φ) α) (h .0) (h .1)
   path-same Kind.Fork h = ap₂ PExp.union (h .0) (h .1)
+  path-same Kind.Either h = refl
   path-same Kind.Unknown h = refl
 
 -- the path expressions that two readings P and P′ of earlier entries give a reference

@@ -57,6 +57,7 @@ module _ (Q : ℕ → Type 0) (N : ℕ → NExp) (P : ℕ → PExp) (x y z : ℕ
   node-names Kind.Jump own r = (tt, tt)
   node-names Kind.Test own r = (tt, tt)
   node-names Kind.Fork own r = (tt, tt)
+  node-names Kind.Either own r = (r .0, r .1)
   node-names Kind.Unknown own r = (tt, tt)
 
   path-names : (κ : Kind) → ((i : ℕ) → hasName κ x i ≡ true → Q i)
@@ -72,6 +73,7 @@ module _ (Q : ℕ → Type 0) (N : ℕ → NExp) (P : ℕ → PExp) (x y z : ℕ
   path-names Kind.Jump own r = (own x (eq-eqb x x refl), r .1)
   path-names Kind.Test own r = (r .0, r .1)
   path-names Kind.Fork own r = (r .0, r .1)
+  path-names Kind.Either own r = (tt, tt)
   path-names Kind.Unknown own r = (tt, tt)
 
 -- a reference of a pattern of n entries: the end of path, or an entry
@@ -91,6 +93,7 @@ name-within Kind.Step w h = absurd (false≢true h)
 name-within Kind.Jump w h = w
 name-within Kind.Test w h = absurd (false≢true h)
 name-within Kind.Fork w h = absurd (false≢true h)
+name-within Kind.Either w h = absurd (false≢true h)
 name-within Kind.Unknown w h = absurd (false≢true h)
 
 -- the name of an entry that has one is in range

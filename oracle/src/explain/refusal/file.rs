@@ -8,7 +8,7 @@ use crate::pattern::{MAX_AXIS, MAX_NAME, Pattern};
 use crate::{model, pattern, tableau};
 
 /// By kind, from 1: its name and the fields that it uses.
-const KINDS: [(&str, &str); 11] = [
+const KINDS: [(&str, &str); 12] = [
     ("property", "x property"),
     ("name", "x name"),
     ("not", "x node entry"),
@@ -20,6 +20,7 @@ const KINDS: [(&str, &str); 11] = [
     ("jump", "x name, y path"),
     ("test", "x node entry, y path"),
     ("fork", "x path, y path"),
+    ("either", "x node entry, y node entry"),
 ];
 
 pub fn of_pattern(bytes: &[u8], refusal: Refusal) -> String {

@@ -1,9 +1,9 @@
 //! Axes: what is after a node (rules 5 and 6).
 
-use super::{ASIDE, BLUE, Build, DOWN, RED, X, at, either};
+use super::{ASIDE, BLUE, Build, DOWN, RED, X, at};
 use crate::planner::builder::Builder;
 
-pub const ALL: [Build; 5] = [after_and_not, after_less, after_named, after_from_named, after_twice];
+pub const ALL: [Build; 4] = [after_and_not, after_less, after_named, after_from_named];
 
 /// Reading A.
 fn after_and_not(b: &mut Builder) -> usize {
@@ -36,17 +36,4 @@ fn after_from_named(b: &mut Builder) -> usize {
     let not_after_red = b.not(after_red);
     let x_leads_to_red = at(b, X, after_red);
     b.all(&[x, not_after_red, x_leads_to_red])
-}
-
-fn after_twice(b: &mut Builder) -> usize {
-    let (red, blue) = (b.property(RED), b.property(BLUE));
-    let either = either(b, red, blue);
-    let aside_either = b.after(ASIDE, either);
-    let down_aside_either = b.after(DOWN, aside_either);
-    let none = [red, blue].map(|colour| {
-        let aside = b.after(ASIDE, colour);
-        let down_aside = b.after(DOWN, aside);
-        b.not(down_aside)
-    });
-    b.all(&[down_aside_either, none[0], none[1]])
 }

@@ -1,11 +1,11 @@
-//! Rules 1 to 7: P says that a name has or lacks a node entry.
+//! Rules 1 to 7, 24 and 25: P says that a name has or lacks a node entry.
 
 use super::Conclusion::{self, Fork, One, Two};
 use super::{Premises, Step};
 use crate::pattern::{Entry, Pattern};
 use crate::tableau::line::Line;
 
-/// The conclusion of a rule from 1 to 7, or `None` if the lines don't fit.
+/// The conclusion of one of these rules, or `None` if the lines don't fit.
 pub fn conclude(pattern: &Pattern, premises: Premises, step: &Step) -> Option<Conclusion> {
     let Line::Has { holds, name: i, entry } = premises.p else { return None };
     let has = |name, entry| Line::Has { holds: true, name, entry };
@@ -23,6 +23,8 @@ pub fn conclude(pattern: &Pattern, premises: Premises, step: &Step) -> Option<Co
         (7, Entry::Compare(comparison, channel, alpha, beta)) => {
             One(Line::Compare { holds, comparison, channel, left: (i, alpha), right: (i, beta) })
         }
+        (24, Entry::Either(phi, psi)) if holds => Fork(has(i, phi), has(i, psi)),
+        (25, Entry::Either(phi, psi)) if !holds => Two(lacks(i, phi), lacks(i, psi)),
         _ => return None,
     };
     Some(conclusion)

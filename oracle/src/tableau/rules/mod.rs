@@ -1,7 +1,7 @@
 //! A step and its conclusion: refusals 19 to 22, and which rules clash or fork.
 //!
-//! What the rules conclude stands beside this file: `entry` has rules 1 to 7, `comparison` rules 8 to 16,
-//! `equality` rules 17 to 20, and `clash` rules 21 to 23.
+//! What the rules conclude stands beside this file: `entry` has rules 1 to 7, 24 and 25, `comparison` rules
+//! 8 to 16, `equality` rules 17 to 20, and `clash` rules 21 to 23.
 
 mod clash;
 mod comparison;
@@ -10,6 +10,9 @@ mod equality;
 
 use super::line::Line;
 use crate::pattern::{MAX_NAME, Pattern};
+
+/// The last rule: 23 of document 01, 25 since Job 6.
+pub const LAST_RULE: u8 = 25;
 
 /// A step of a tableau file.
 #[derive(Clone, Copy, Debug, PartialEq, Eq)]
@@ -51,7 +54,7 @@ pub fn apply(pattern: &Pattern, branch: &[Line], step: &Step) -> Result<Conclusi
 
 /// Refusals 19 to 21 (by number), or the conclusion of the step, be its name fresh or not.
 pub fn fit(pattern: &Pattern, branch: &[Line], step: &Step) -> Result<Conclusion, u16> {
-    if !(1..=23).contains(&step.rule) {
+    if !(1..=LAST_RULE).contains(&step.rule) {
         return Err(19);
     }
     let premises = premises(branch, step).ok_or(20u16)?;
@@ -72,7 +75,7 @@ fn conclude(pattern: &Pattern, premises: Premises, step: &Step) -> Option<Conclu
         return None;
     }
     match step.rule {
-        1..=7 => entry::conclude(pattern, premises, step),
+        1..=7 | 24 | 25 => entry::conclude(pattern, premises, step),
         8..=16 => comparison::conclude(pattern, premises, step),
         17..=20 => equality::conclude(premises, step),
         _ => clash::clashes(premises, step.rule).then_some(Conclusion::Clash),
@@ -104,7 +107,7 @@ pub fn says_clash(rule: u8) -> bool {
     matches!(rule, 21..=23)
 }
 
-/// Whether the rule forks the branch in two: 3, 11, 12.
+/// Whether the rule forks the branch in two: 3, 11, 12, 24.
 pub fn says_fork(rule: u8) -> bool {
-    matches!(rule, 3 | 11 | 12)
+    matches!(rule, 3 | 11 | 12 | 24)
 }

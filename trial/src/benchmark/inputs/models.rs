@@ -3,7 +3,7 @@
 use super::patterns;
 use crate::benchmark::case::Case;
 use oracle::model::{Edge, Model, Node};
-use oracle::pattern::Pattern;
+use oracle::pattern::{Entry, Pattern};
 use oracle::random::Random;
 
 /// The size of a random model.
@@ -61,13 +61,14 @@ pub fn in_two_parts(nodes: usize) -> Model {
     model
 }
 
+fn judged(name: &str, pattern: &Pattern, size: Size) -> Case {
+    Case::model(name, pattern, &random_model(size, 1))
+}
+
 pub fn cases() -> Vec<Case> {
     let typical = patterns::typical();
     let mixed = patterns::mixed(255, patterns::SEED);
-    let judged =
-        |name: &str, pattern: &Pattern, size: Size| Case::model(name, pattern, &random_model(size, 1));
-    let apart = |name: &str, pattern: &Pattern| Case::model(name, pattern, &in_two_parts(64));
-    vec![
+    let mut cases = vec![
         judged("typical", &typical, TYPICAL),
         judged("typical, contradiction", &patterns::contradicted(patterns::typical()), TYPICAL),
         judged("large, mixed", &mixed, LARGE),
@@ -80,11 +81,21 @@ pub fn cases() -> Vec<Case> {
         judged("large, mixed, 512 edges", &mixed, SPARSE),
         judged("small pattern, large model", &typical, LARGE),
         judged("large pattern, small model", &mixed, ALL_NAMES),
-        judged("both shared, 2^126 routes", &patterns::shared_nodes(255), LARGE),
+        judged("both shared, 2^126 routes", &patterns::shared_nodes(255, Entry::Both), LARGE),
+        judged("either shared, 2^126 routes", &patterns::shared_nodes(255, Entry::Either), LARGE),
         judged("forks shared, 252 deep", &patterns::shared_forks(255), LARGE),
         judged("254 steps, 8 axes", &patterns::long_path(255, 8), LARGE),
         judged("254 steps, complete graph", &patterns::long_path(255, 1), COMPLETE),
         judged("254 after", &patterns::long_after(255), LARGE),
+    ];
+    cases.extend(of_comparisons());
+    cases
+}
+
+/// Cases of many comparisons, and those in a graph in two parts.
+fn of_comparisons() -> Vec<Case> {
+    let apart = |name: &str, pattern: &Pattern| Case::model(name, pattern, &in_two_parts(64));
+    vec![
         judged("comparisons in tests, nested", &patterns::nested_tests(255), LARGE),
         judged("comparisons in tests, complete", &patterns::nested_tests(255), COMPLETE),
         judged("85 comparisons of long paths", &patterns::sweeping_comparisons(255), LARGE),

@@ -55,7 +55,7 @@ impl Entries {
 const SAME: Comparison = Comparison::Same;
 const DIFFER: Comparison = Comparison::Differ;
 
-/// 20 entries of all kinds, all of them reached.
+/// 20 entries of all kinds of document 01, all of them reached.
 pub fn typical() -> Pattern {
     let mut entries = Entries::default();
     let open = entries.add(Entry::Property(0));
@@ -95,7 +95,7 @@ pub fn contradicted(mut pattern: Pattern) -> Pattern {
 /// the large one.
 pub const SEED: u64 = 8;
 
-/// Entries of all kinds at random, the root reaching nearly all of them.
+/// Entries of all kinds of document 01 at random, the root reaching nearly all of them.
 pub fn mixed(count: usize, seed: u64) -> Pattern {
     let mut making = Mixed {
         entries: vec![Entry::Property(0)],
@@ -183,14 +183,14 @@ impl Mixed {
     }
 }
 
-/// Pairs of `both`, each referring to both of the pair before it: routes double from pair to pair.
-pub fn shared_nodes(count: usize) -> Pattern {
+/// Pairs of `both` or `either`, each referring to both of the pair before it: routes double from pair to pair.
+pub fn shared_nodes(count: usize, joint: fn(usize, usize) -> Entry) -> Pattern {
     let mut entries = Entries::default();
     let mut pair = (entries.add(Entry::Property(0)), entries.add(Entry::Property(1)));
     while entries.count() + 2 < count {
-        pair = (entries.add(Entry::Both(pair.0, pair.1)), entries.add(Entry::Both(pair.1, pair.0)));
+        pair = (entries.add(joint(pair.0, pair.1)), entries.add(joint(pair.1, pair.0)));
     }
-    entries.add(Entry::Both(pair.0, pair.1));
+    entries.add(joint(pair.0, pair.1));
     entries.pattern()
 }
 

@@ -55,6 +55,11 @@ impl<'a> Script<'a> {
         self.branch.len() - 1
     }
 
+    /// How many steps there are so far.
+    pub fn steps(&self) -> usize {
+        self.steps.len()
+    }
+
     pub fn tableau(self) -> Tableau {
         Tableau { start: self.start, steps: self.steps }
     }

@@ -1,4 +1,4 @@
-//! Tableaux of one pattern in many shapes, and the cases of judging one.
+//! Tableaux of two patterns in many shapes, and the cases of judging one.
 
 use super::patterns::Entries;
 use super::script::Script;
@@ -22,11 +22,24 @@ pub fn workshop(count: usize) -> Pattern {
     }
     let p = entries.add(Entry::Property(0));
     let twice = entries.add(Entry::Both(p, p));
-    let never = entries.add(Entry::Not(twice));
+    furnished(entries, p, p, twice)
+}
+
+/// Another such pattern: either p or p, and not that.
+pub fn workshop_of_either() -> Pattern {
+    let mut entries = Entries::default();
+    let p = entries.add(Entry::Property(0));
+    let twice = entries.add(Entry::Either(p, p));
+    furnished(entries, p, twice, twice)
+}
+
+/// The pattern that says one thing, and not another; and what lines are made from.
+fn furnished(mut entries: Entries, p: usize, said: usize, denied: usize) -> Pattern {
+    let never = entries.add(Entry::Not(denied));
     let after = entries.add(Entry::After(0, p));
     let step = entries.add(Entry::Step(0, None));
     let same = entries.add(Entry::Compare(Comparison::Same, 0, Some(step), None));
-    let clashing = entries.add(Entry::Both(p, never));
+    let clashing = entries.add(Entry::Both(said, never));
     let going_on = entries.add(Entry::Both(after, same));
     entries.add(Entry::Both(clashing, going_on));
     entries.pattern()
@@ -35,9 +48,13 @@ pub fn workshop(count: usize) -> Pattern {
 /// A tableau of the workshop in the making; the lines that it begins with.
 pub struct Work<'a> {
     script: Script<'a>,
+    /// The rule and the line that fork: lacking both, or having either.
+    fork: (u8, usize),
+    /// The rule and the line that give two lines: the root, or lacking either.
+    two: (u8, usize),
+    /// The line that the new line of each side clashes with.
     p: usize,
     never: usize,
-    lacks_both: usize,
     after: usize,
     comparison: usize,
 }
@@ -46,30 +63,35 @@ impl<'a> Work<'a> {
     fn new(pattern: &'a Pattern) -> Work<'a> {
         let mut script = Script::new(pattern, START);
         let parts = script.use_line(2, 0);
-        let p = script.use_line(2, parts);
-        let never = p + 1;
+        let said = script.use_line(2, parts);
+        let never = said + 1;
         let after = script.use_line(2, parts + 1);
-        let lacks_both = script.use_line(1, never);
+        let lacks = script.use_line(1, never);
         let comparison = script.use_line(7, after + 1);
-        Work { script, p, never, lacks_both, after, comparison }
+        let (fork, two, p) = if pattern.entries.iter().any(|entry| matches!(entry, Entry::Either(..))) {
+            ((24, said), (25, lacks), script.use_line(25, lacks))
+        } else {
+            ((3, lacks), (2, 0), said)
+        };
+        Work { script, fork, two, p, never, after, comparison }
     }
 
     fn fork(&mut self) {
-        self.script.use_line(3, self.lacks_both);
+        self.script.use_line(self.fork.0, self.fork.1);
     }
 
-    /// Ends a branch that has the line "lacks p".
-    fn clash(&mut self, lacks: usize) {
-        self.script.step(21, self.p, lacks, 0);
+    /// Ends a branch that has this line from a fork.
+    fn clash(&mut self, side: usize) {
+        self.script.step(21, self.p, side, 0);
     }
 
     /// A tree of so many forks, halved between the sides; each side that doesn't fork is worked on and
     /// clashes.
     fn tree(&mut self, forks: usize, leaf: &impl Fn(&mut Work)) {
         if forks == 0 {
-            let lacks = self.script.last();
+            let side = self.script.last();
             leaf(self);
-            return self.clash(lacks);
+            return self.clash(side);
         }
         self.fork();
         let more = forks - 1;
@@ -111,8 +133,10 @@ impl<'a> Work<'a> {
     }
 }
 
-/// Steps that a tableau of the workshop has before its first fork.
-const OPENING: usize = 5;
+/// Steps that a tableau of a workshop has before its first fork.
+fn opening(pattern: &Pattern) -> usize {
+    Work::new(pattern).script.steps()
+}
 
 /// A tableau of at most so many steps whose leaves have as many rounds of work as fit, so many steps a round.
 fn leaves(
@@ -122,7 +146,7 @@ fn leaves(
     round: usize,
     work: impl Fn(&mut Work, usize),
 ) -> Tableau {
-    let rounds = (steps - OPENING - (2 * count - 1)) / count / round;
+    let rounds = (steps - opening(pattern) - (2 * count - 1)) / count / round;
     let mut making = Work::new(pattern);
     making.tree(count - 1, &|leaf: &mut Work| work(leaf, rounds));
     making.script.tableau()
@@ -133,11 +157,11 @@ pub fn exchanges(pattern: &Pattern, steps: usize) -> Tableau {
     leaves(pattern, steps, 2 + steps / 1000, 1, |leaf, rounds| leaf.exchange(rounds))
 }
 
-/// Rules 1 and 2 in turn.
-fn chains(pattern: &Pattern, steps: usize) -> Tableau {
+/// Rule 1 and a rule that gives two lines, 2 or 25, in turn.
+pub fn chains(pattern: &Pattern, steps: usize) -> Tableau {
     leaves(pattern, steps, 2 + steps / 600, 2, |leaf, rounds| {
         for _ in 0..rounds {
-            leaf.script.use_line(2, 0);
+            leaf.script.use_line(leaf.two.0, leaf.two.1);
             leaf.script.use_line(1, leaf.never);
         }
     })
@@ -145,7 +169,7 @@ fn chains(pattern: &Pattern, steps: usize) -> Tableau {
 
 /// Nothing but forks and clashes.
 pub fn forks(pattern: &Pattern, steps: usize) -> Tableau {
-    leaves(pattern, steps, (steps - OPENING).div_ceil(2), 1, |_, _| ())
+    leaves(pattern, steps, (steps - opening(pattern)).div_ceil(2), 1, |_, _| ())
 }
 
 /// A fork in the right side of a fork, so many times, and on the last right side a fork in the left side of a
@@ -156,9 +180,9 @@ pub fn nested(pattern: &Pattern, right: usize, left: usize, innermost: impl Fn(&
     for _ in 0..left {
         work.fork();
     }
-    let lacks = work.script.last();
+    let side = work.script.last();
     innermost(&mut work);
-    work.clash(lacks);
+    work.clash(side);
     for _ in 0..left {
         work.clash(work.script.last());
     }
@@ -208,7 +232,7 @@ fn judged(name: &str, pattern: &Pattern, tableau: impl Fn(&Pattern) -> Tableau) 
 }
 
 pub fn cases() -> Vec<Case> {
-    let (small, large) = (&workshop(9), &workshop(255));
+    let (small, large, either) = (&workshop(9), &workshop(255), &workshop_of_either());
     let exchanges = |pattern: &Pattern| exchanges(pattern, 4096);
     let mut cases = vec![
         judged("typical, 60 steps", &typical::pattern(), typical::tableau),
@@ -217,6 +241,8 @@ pub fn cases() -> Vec<Case> {
         judged("exchanges, 255 entries", large, exchanges),
         judged("rules 1 and 2", small, |pattern| chains(pattern, 4096)),
         judged("forks and clashes", small, |pattern| forks(pattern, 4096)),
+        judged("rules 1 and 25", either, |pattern| chains(pattern, 4096)),
+        judged("forks of either and clashes", either, |pattern| forks(pattern, 4096)),
         judged("fresh names, 400 lines", small, |pattern| fresh(pattern, MANY_LEAVES)),
     ];
     cases.extend(deep_cases());
@@ -230,6 +256,9 @@ pub fn deep_cases() -> Vec<Case> {
     let mixed = Fresh { mixed: true, ..LONGEST_SEARCHES };
     vec![
         judged("64 forks nested left", small, |pattern| nested(pattern, 0, 64, |_| ())),
+        judged("64 forks of either nested left", &workshop_of_either(), |pattern| {
+            nested(pattern, 0, 64, |_| ())
+        }),
         judged("1,014 forks nested right", small, |pattern| nested(pattern, 1014, 0, |_| ())),
         judged("950 nested right, then 64 left", small, |pattern| nested(pattern, 950, 64, |_| ())),
         judged("63 nested left, then 950 right", small, |pattern| {

@@ -85,7 +85,7 @@ fn in_few_slots(random: &mut Random, file: &mut Vec<u8>) {
 /// A node, a path, and an entry of any kind whose fields stand at the ends of ranges; then a node as
 /// the root, or not.
 fn border_fields(random: &mut Random, file: &mut Vec<u8>) {
-    let kind = if random.once_in(12) { random.pick(&[0, 12, 13, 255]) } else { random.between(1, 11) as u8 };
+    let kind = if random.once_in(12) { random.pick(&[0, 13, 14, 255]) } else { random.between(1, 12) as u8 };
     let x = if random.once_in(2) { last_or_over(random, kind) } else { random.pick(&BORDERS) };
     let entry = [kind, x, reference(random), reference(random)];
     let fields = [[1, 0, 0, 0], [8, 0, 255, 0], zero_some(random, entry), [1, 30, 0, 0]];
@@ -125,9 +125,9 @@ fn zero_some(random: &mut Random, [kind, x, y, z]: [u8; 4]) -> [u8; 4] {
 /// An entry that refers to itself, to the entry before or after, to the end, or to one of the other
 /// sort, in each field that refers.
 fn around_a_sort(random: &mut Random, file: &mut Vec<u8>) {
-    let mut reference = || random.pick(&[0, 1, 2, 3, 4, 255]);
+    let mut reference = || random.pick(&[0, 0, 1, 2, 3, 4, 5, 255]);
     let (one, other) = (reference(), reference());
-    let entry = match random.below(8) {
+    let entry = match random.below(12) {
         0 => [3, one, 0, 0],
         1 => [4, one, other, 0],
         2 => [5, 0, one, 0],
@@ -135,7 +135,9 @@ fn around_a_sort(random: &mut Random, file: &mut Vec<u8>) {
         4 => [8, 7, one, 0],
         5 => [9, 127, one, 0],
         6 => [10, one, other, 0],
+        7..11 => [12, one, other, 0],
         _ => [11, one, other, 0],
     };
-    entries(file, &[[1, 0, 0, 0], [8, 0, 255, 0], entry, [8, 1, 255, 0], [1, 1, 0, 0]]);
+    let either = [12, 0, 0, 0];
+    entries(file, &[[1, 0, 0, 0], [8, 0, 255, 0], either, entry, [8, 1, 255, 0], [1, 1, 0, 0]]);
 }

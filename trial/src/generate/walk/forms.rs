@@ -22,6 +22,8 @@ fn rules_for_entry(entry: &Entry, has: bool) -> &'static [u8] {
         (Entry::Not(_), _) => &[1],
         (Entry::Both(..), true) => &[2],
         (Entry::Both(..), false) => &[3],
+        (Entry::Either(..), true) => &[24],
+        (Entry::Either(..), false) => &[25],
         (Entry::Name(_), _) => &[4],
         (Entry::After(..), true) => &[5],
         (Entry::After(..), false) => &[6],

@@ -14,13 +14,13 @@ impl Walker<'_> {
     pub fn add_wrong(&mut self, random: &mut Random) {
         let mut step = self.fitting(random).unwrap_or(Step { rule: 1, p: 0, q: 0, argument: 0 });
         let lines = self.walk.branch().len();
-        match random.below(16) {
-            0 => step.rule = random.pick(&[0, 24, 25, 32, 33, 255]),
+        match random.below(17) {
+            0 => step.rule = random.pick(&[0, rules::LAST_RULE + 1, rules::LAST_RULE + 2, 32, 33, 255]),
             1 => step.p = random.pick(&[lines, lines + 1, 1023, 1024, 65535, lines | 256]) as u16,
             2 => step.q = random.pick(&[1, lines - 1, lines, 1024, 65535, 256]) as u16,
             3 | 9 => step = self.border_argument(random).unwrap_or(step),
             4 | 5 => step = self.stale(random).unwrap_or(step),
-            6 => step.rule = random.between(1, 23) as u8,
+            6 => step.rule = random.between(1, rules::LAST_RULE.into()) as u8,
             7 => step.p = random.below(lines) as u16,
             8 => {
                 step = self.clash(random).unwrap_or(step);
@@ -28,6 +28,7 @@ impl Walker<'_> {
             }
             10 | 11 => step = self.other_axis().unwrap_or(step),
             12 => step = self.two_differs().unwrap_or(step),
+            13 => step.argument = random.pick(&[1, 2, 127, 128, 255]),
             _ => step = self.almost(random).unwrap_or(step),
         }
         self.tableau.steps.push(step);
@@ -116,7 +117,8 @@ impl Walker<'_> {
 
     /// Adds a step of random bytes, which hardly ever fits.
     pub fn add_random(&mut self, random: &mut Random) {
-        let (rule, p, q) = (random.below(25) as u8, random.below(40) as u16, random.below(40) as u16);
+        let rule = random.below(rules::LAST_RULE as usize + 2) as u8;
+        let (p, q) = (random.below(40) as u16, random.below(40) as u16);
         self.tableau.steps.push(Step { rule, p, q, argument: random.pick(&BORDERS) });
     }
 }

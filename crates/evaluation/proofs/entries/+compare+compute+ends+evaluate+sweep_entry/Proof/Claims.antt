@@ -27,6 +27,7 @@ use Rattle.slots.proofs.marks.row_of_path.Reads as row-of-path-reads
 use Rattle.slots.proofs.marks.set_place.Reads as set-place-reads
 use Rattle.relations.proofs.values.some_pair.Reads as some-pair-reads
 use Rattle.nodeset.proofs.NodeSet.store.Reads as store-reads
+use Rattle.nodeset.proofs.NodeSet.union.Reads as union-reads
 use Rattle.relations.proofs.model.with_name.Reads as with-name-reads
 use Rattle.relations.proofs.model.with_property.Reads as with-property-reads
 use Rattle.evaluation.specs.Sweep.{entriesSwept}
@@ -153,6 +154,8 @@ compute-claims t = (
   minus-reads.Learnt,
   meet-reads.Asked,
   meet-reads.Learnt,
+  union-reads.Asked,
+  union-reads.Learnt,
   before-reads.Asked,
   before-reads.Learnt,
   below 6 compare-kinds.ps μ-compare compare.Pre t,

@@ -10,7 +10,7 @@ use Rattle.pattern.specs.File.Reading.{countOf, sortAt}
 use Rattle.pattern.specs.declared.table.Sort.{Sort}
 use Rattle.evaluation.specs.Standing.{Lent}
 use Rattle.evaluation.specs.Learned.{Learned}
-use Rattle.evaluation.specs.Evaluated.{entry-long, NodeEntry, property-within, name-within, axis-within, not-refers, both-refers, after-refers, compares, evaluates-property, evaluates-name, evaluates-not, evaluates-both, evaluates-after, evaluates-none}
+use Rattle.evaluation.specs.Evaluated.{entry-long, NodeEntry, property-within, name-within, axis-within, not-refers, both-refers, either-refers, after-refers, compares, evaluates-property, evaluates-name, evaluates-not, evaluates-both, evaluates-either, evaluates-after, evaluates-none}
 use Rattle.evaluation.proofs.entries.+compare+compute+ends+evaluate+sweep_entry.Proof.Claims.{compute-claims, compute-at}
 use Rattle.evaluation.proofs.entries.compute.Reads as reads
 use Rattle.evaluation.proofs.entries.compute.Kinds as kinds
@@ -67,15 +67,21 @@ module _ (t : ℕ) where
   evaluate-requires-3 c κs = let k = c .before .before .before in asks k (both-refers (entry k) (c .before .enum-told4 .given .1) .1)
 
   evaluate-requires-4 : Of lts.Need-evaluate-requires-4
-  evaluate-requires-4 c κs = let k = c .before .before in asks k (after-refers (entry k) (c .enum-told5 .given .1))
+  evaluate-requires-4 c κs = let k = c .before .before in asks k (either-refers (entry k) (c .enum-told5 .given .1) .0)
+
+  evaluate-requires-5 : Of lts.Need-evaluate-requires-5
+  evaluate-requires-5 c κs = let k = c .before .before .before in asks k (either-refers (entry k) (c .before .enum-told5 .given .1) .1)
+
+  evaluate-requires-6 : Of lts.Need-evaluate-requires-6
+  evaluate-requires-6 c κs = let k = c .before .before in asks k (after-refers (entry k) (c .enum-told6 .given .1))
 
   before-requires : Of lts.Need-before-requires
-  before-requires c κs = let n = entry (c .before .before .before) in (n .lent .table-long, (n .lent .narrow, axis-within n (c .before .enum-told5 .given .1)))
+  before-requires c κs = let n = entry (c .before .before .before) in (n .lent .table-long, (n .lent .narrow, axis-within n (c .before .enum-told6 .given .1)))
 
   compare-requires : Of lts.Need-compare-requires
   compare-requires c κs = let k = c .before .before .before in
       let n = entry k in
-      (omega (arith, start k .pre .0), (n .lent, (start k .pre .1 .1 .0, (n .within, compares n _ (c .before .node .given .1)))))
+      (omega (arith, start k .pre .0), (n .lent, (start k .pre .1 .1 .0, (n .within, compares n _ (c .before .c .given .1)))))
 
   returns : Of lts.Need-returns
   returns c = let n = entry (c .before .before .before) in rw (c .with-property .ensures) (evaluates-property n (c .before .enum-told .given .1))
@@ -94,20 +100,26 @@ module _ (t : ℕ) where
       rw (c .meet .ensures) (evaluates-both n (c .before .before .evaluate2 .result) (c .before .evaluate3 .result) (e .enum-told4 .given .1) (c .before .before .evaluate2 .ensures) (c .before .evaluate3 .ensures))
 
   returns-5 : Of lts.Need-returns-5
-  returns-5 c = let e = c .before .before in
+  returns-5 c = let e = c .before .before .before in
       let n = entry (e .before .before) in
-      evaluates-after n (c .before .evaluate4 .result) (c .before2 .result) (e .enum-told5 .given .1) (c .before .evaluate4 .ensures) (c .before2 .ensures)
+      rw (c .union .ensures) (evaluates-either n (c .before .before .evaluate4 .result) (c .before .evaluate5 .result) (e .enum-told5 .given .1) (c .before .before .evaluate4 .ensures) (c .before .evaluate5 .ensures))
 
   returns-6 : Of lts.Need-returns-6
-  returns-6 c = c .compare .ensures
+  returns-6 c = let e = c .before .before in
+      let n = entry (e .before .before) in
+      evaluates-after n (c .before .evaluate6 .result) (c .before2 .result) (e .enum-told6 .given .1) (c .before .evaluate6 .ensures) (c .before2 .ensures)
 
   returns-7 : Of lts.Need-returns-7
-  returns-7 c = evaluates-none (entry (c .before .before .before)) (c .empty .result) (c .before .enum-told6 .given .1)
+  returns-7 c = c .compare .ensures
+
+  returns-8 : Of lts.Need-returns-8
+  returns-8 c = evaluates-none (entry (c .before .before .before)) (c .empty .result) (c .before .enum-told7 .given .1)
 
   pub closed : {M : Type 1} → lts.Closed (compute-claims t) (compute-at t) reads.Post M
   closed =
       lts.spec (compute-claims t) (compute-at t) reads.Post
       at-requires (λ c κs. search needs) (λ c. search needs) with-property-requires (λ c. search needs) with-name-requires (λ c. search needs)
       evaluate-requires all-nodes-requires (λ c κs. search needs) (λ c. search needs) evaluate-requires-2 evaluate-requires-3
-      (λ c κs. search needs) (λ c. search needs) evaluate-requires-4 before-requires (λ c. search needs) compare-requires (λ c. search needs)
-      (λ c κs. search needs) returns returns-2 returns-3 returns-4 returns-5 returns-6 returns-7
+      (λ c κs. search needs) (λ c. search needs) evaluate-requires-4 evaluate-requires-5 (λ c κs. search needs) (λ c. search needs)
+      evaluate-requires-6 before-requires (λ c. search needs) compare-requires (λ c. search needs)
+      (λ c κs. search needs) returns returns-2 returns-3 returns-4 returns-5 returns-6 returns-7 returns-8

@@ -76,6 +76,12 @@ enum-told-12 c = search needs
 row-requires-12 : tie.Need-row-requires-12
 row-requires-12 c κs = search needs
 
+enum-told-13 : tie.Need-enum-told-13
+enum-told-13 c = search needs
+
+row-requires-13 : tie.Need-row-requires-13
+row-requires-13 c κs = search needs
+
 returns : tie.Need-returns
 returns c = rw (c .before .enum-told .given .1) (c .row .ensures)
 
@@ -112,6 +118,9 @@ returns-11 c = rw (c .before .enum-told11 .given .1) (c .row11 .ensures)
 returns-12 : tie.Need-returns-12
 returns-12 c = rw (c .before .enum-told12 .given .1) (c .row12 .ensures)
 
+returns-13 : tie.Need-returns-13
+returns-13 c = rw (c .before .enum-told13 .given .1) (c .row13 .ensures)
+
 pub form-spec : {M : Type 1} → statement M
 form-spec =
     tie.close
@@ -140,6 +149,8 @@ form-spec =
     row-requires-11
     enum-told-12
     row-requires-12
+    enum-told-13
+    row-requires-13
     returns
     returns-2
     returns-3
@@ -151,4 +162,5 @@ form-spec =
     returns-9
     returns-10
     returns-11
-    returns-12)
+    returns-12
+    returns-13)

@@ -41,10 +41,14 @@ returns-11 : tie.Need-returns-11
 returns-11 c = search needs
 
 returns-12 : tie.Need-returns-12
-returns-12 c =
+returns-12 c = search needs
+
+returns-13 : tie.Need-returns-13
+returns-13 c =
     let r = c .match .rest in
     sym
     (kind-beyond (c .before .args .number)
+    (below-more _ 11
     (below-more _ 10
     (below-more _ 9
     (below-more _ 8
@@ -57,6 +61,7 @@ returns-12 c =
     (below-more _ 1
     (below-more _ 0
     (below-none _)
+    (r .0 .0 .0 .0 .0 .0 .0 .0 .0 .0 .0 .1))
     (r .0 .0 .0 .0 .0 .0 .0 .0 .0 .0 .1))
     (r .0 .0 .0 .0 .0 .0 .0 .0 .0 .1))
     (r .0 .0 .0 .0 .0 .0 .0 .0 .1))
@@ -84,4 +89,5 @@ of-spec =
     returns-9
     returns-10
     returns-11
-    returns-12)
+    returns-12
+    returns-13)
