@@ -41,7 +41,7 @@ static inline enum riser_kind riser_kind(uint64_t answer) { return (enum riser_k
 /* Part k (0 to 3) of an answer: 14 bits each, part 0 lowest. */
 static inline unsigned riser_part(uint64_t answer, unsigned k) { return (answer >> (4 + 14 * k)) & 0x3fff; }
 
-/* Reads a pattern: RISER_READ, or RISER_REFUSED with number 1 to 8. */
+/* Reads a pattern: RISER_READ, or RISER_REFUSED with number 1 to 8. It takes entries of the kinds 1 to 12. */
 uint64_t riser_read(const uint8_t *pattern, size_t pattern_length);
 
 /* The bytes of working area that judging a model of a pattern wants: 8 for each entry that is a node, reached
@@ -57,9 +57,9 @@ size_t riser_model_area(const uint8_t *pattern, size_t pattern_length);
 uint64_t riser_judge_model(const uint8_t *pattern, size_t pattern_length, const uint8_t *model,
                            size_t model_length, uint8_t *area, size_t area_length);
 
-/* Judges a tableau for a pattern: RISER_CLOSED, or RISER_REFUSED with number 1 to 9 or 15 to 26. Refusals
- * up to 18 leave the area unchanged; the others, and closed, leave its first 8,192 bytes zero and the
- * rest unchanged. */
+/* Judges a tableau for a pattern: RISER_CLOSED, or RISER_REFUSED with number 1 to 9 or 15 to 26. It takes
+ * steps of the rules 1 to 25. Refusals up to 18 leave the area unchanged; the others, and closed, leave its
+ * first 8,192 bytes zero and the rest unchanged. */
 uint64_t riser_judge_tableau(const uint8_t *pattern, size_t pattern_length, const uint8_t *tableau,
                              size_t tableau_length, uint8_t *area, size_t area_length);
 

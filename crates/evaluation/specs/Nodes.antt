@@ -18,7 +18,7 @@ use Rattle.pattern.specs.File.Reading.{countOf}
 use Rattle.pattern.specs.File.Valid.{Valid}
 use Rattle.pattern.specs.Logic.Semantics.{Compared}
 use Rattle.pattern.specs.Logic.Finite.{Finite, Named, NodeOf, node-same, modelOf}
-use Rattle.relations.specs.Tables.{IsSet, Inside, Uses, Tabled, AlikeOn, Before, successorsRow, propertyRow, nameRow, nodesRow, alikeRow}
+use Rattle.relations.specs.Tables.{IsSet, Inside, Tabled, AlikeOn, Before, successorsRow, propertyRow, nameRow, nodesRow, alikeRow}
 use Rattle.relations.specs.Members.{exactly-union}
 use Rattle.relations.specs.Values.{Matches, Pair}
 use Rattle.evaluation.specs.Standing.{Holding, Leading, Standing, Ends}

@@ -249,8 +249,8 @@ Job5 =
 -- 02, Job 6: "node kind 12, either, with x and y node references; it holds where at least one part holds. Rule 24: P has either, fork, has φ
 -- or has ψ. Rule 25: P lacks either, lacks φ then lacks ψ. Refusals 4 and 19 widen accordingly; neither rule is a clash." Either of two
 -- names, nodes 1 and 3 of four, which holds at both, and its three node entries; z not zero, a part that is a path, one that isn't earlier,
--- and a path that goes on by an either; kind 13. Either and not that either: 25 and then 24, whose first side is that of φ, which counts as a
--- fork; the sides closed in the other order; 24 where P lacks it and 25 where P has it; fields that they don't use; rule 26.
+-- and a path that goes on by an either; kind 13. Either and not that either: 25 and then 24, which counts as a fork and whose first
+-- side is that of φ; the sides closed in the other order; 24 where P lacks it and 25 where P has it; fields that they don't use; rule 26.
 abbrev pub patternEither : List ℕ
 patternEither = patternFile 3 (2 ∷ 5 ∷ 0 ∷ 0 ∷ 2 ∷ 6 ∷ 0 ∷ 0 ∷ 12 ∷ 0 ∷ 1 ∷ 0 ∷ [])
 

@@ -274,8 +274,8 @@ rule25 h e =
 
 -- ---- the table of the rules
 
--- All that the documents say of a rule: its number; how many sides what it concludes has; whether it uses the line Q, and the argument, beside P; and
--- its outcome, for the pattern of these bytes, from P, Q and the argument.
+-- All that the documents say of a rule: its number; how many sides what it concludes has; whether it uses the line Q, and the argument,
+-- beside P; and its outcome, for the pattern of these bytes, from P, Q and the argument.
 pub record Rule : Type 0 where
   pub number : ℕ
   pub sideCount : ℕ

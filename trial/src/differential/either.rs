@@ -75,9 +75,7 @@ pub const RULES: [Limit; 26] = [
     ("rules 24 and 25, closed", |it| it.closed() && it.uses(HAS) && it.uses(LACKS)),
     ("rule 24 without rule 25, closed", |it| it.closed() && it.uses(HAS) && !it.uses(LACKS)),
     ("rule 25 without rule 24, closed", |it| it.closed() && it.uses(LACKS) && !it.uses(HAS)),
-    ("rule 24 without another fork, closed", |it| {
-        it.closed() && it.uses(HAS) && ![3, 11, 12].iter().any(|&rule| it.uses(rule))
-    }),
+    ("rule 24 without another fork, closed", |it| it.closed() && it.uses(HAS) && !it.forks_otherwise()),
     ("rule 24 of two equal parts, closed", |it| it.takes_apart(HAS, |parts| parts[0] == parts[1])),
     ("rule 25 of two equal parts, closed", |it| it.takes_apart(LACKS, |parts| parts[0] == parts[1])),
     ("the rule behind 25 refused 19", |it| it.step_refused(19).is_some_and(|step| step[0] == LAST_RULE + 1)),
@@ -99,15 +97,17 @@ pub const RULES: [Limit; 26] = [
     ("rule 25 with room for no line refused 23", |it| it.over_lines(LACKS, 1024)),
     ("rule 25 with room for one line refused 23", |it| it.over_lines(LACKS, 1023)),
     ("rule 25 that fills the lines, closed", |it| {
-        let is_last = |pair: &[&[u8]]| pair[0][0] == LACKS && says_clash(pair[1][0]);
-        matches!(it.finding, Finding::Closed { most: 1024, .. })
-            && it.steps().collect::<Vec<_>>().windows(2).any(is_last)
+        let fills =
+            |(place, step): (usize, &[u8])| step[0] == LACKS && branch_before(it.input, place).len() == 1022;
+        matches!(it.finding, Finding::Closed { most: 1024, .. }) && it.steps().enumerate().any(fills)
     }),
     ("rule 24 over the lines with 64 right sides waiting refused 23", |it| {
         it.over_lines(HAS, 1024) && it.place(23).is_some_and(|place| it.waiting_before(place) == 64)
     }),
     ("65th right side by rule 24 refused 24", |it| it.step_refused(24).is_some_and(|step| step[0] == HAS)),
-    ("64 right sides of rule 24 waiting, closed", |it| it.closed() && it.most_waiting() == 64 && !it.uses(3)),
+    ("64 right sides of rule 24 waiting, closed", |it| {
+        it.closed() && it.most_waiting() == 64 && !it.forks_otherwise()
+    }),
     ("rule 24 of a pattern with a model that meets it, not closed", |it| it.of_met(HAS)),
     ("rule 25 of a pattern with a model that meets it, not closed", |it| it.of_met(LACKS)),
 ];
@@ -122,7 +122,7 @@ fn is_path_at(all: &[[u8; 4]], own: usize, part: usize) -> bool {
 }
 
 fn is_later_node(all: &[[u8; 4]], own: usize, part: usize) -> bool {
-    part > own && all.get(part).is_some_and(|entry| !is_path(entry))
+    part > own && all.get(part).is_some_and(|entry| matches!(entry[0], 1..=7 | KIND))
 }
 
 fn is_either(entry: &Entry) -> bool {
@@ -258,6 +258,11 @@ impl Judged<'_> {
     /// Whether a step of the tableau has the rule.
     fn uses(&self, rule: u8) -> bool {
         self.steps().any(|step| step[0] == rule)
+    }
+
+    /// Whether a step of the tableau forks its branch by another rule than 24.
+    fn forks_otherwise(&self) -> bool {
+        self.steps().any(|step| says_fork(step[0]) && step[0] != HAS)
     }
 
     /// Whether a closed tableau takes an either of such parts apart by the rule.

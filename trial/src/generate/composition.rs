@@ -54,11 +54,5 @@ impl Composer<'_> {
 
 /// Either of two nodes; now and then as three nots and a both, as it was written before it was a kind.
 pub fn either(random: &mut Random, builder: &mut Builder, phi: usize, psi: usize) -> usize {
-    if random.once_in(3) {
-        let (not_phi, not_psi) = (builder.not(phi), builder.not(psi));
-        let neither = builder.both(not_phi, not_psi);
-        builder.not(neither)
-    } else {
-        builder.either(phi, psi)
-    }
+    if random.once_in(3) { builder.not_neither(phi, psi) } else { builder.either(phi, psi) }
 }

@@ -1,5 +1,6 @@
 -- `has_rules::both_parts` meets its contract.
 -- Assumes nothing.
+use mathlib.Core.Path.{sym}
 use borrow.Author.Needs.{needs}
 use Rattle.has_rules.proofs.both_parts.Statement.{statement}
 use Rattle.has_rules.proofs.both_parts.Tie as tie
@@ -11,7 +12,7 @@ has-line-requires-2 : tie.Need-has-line-requires-2
 has-line-requires-2 c κs = search needs
 
 returns : tie.Need-returns
-returns c = rw (c .has-line2 .ensures, c .before .has-line .ensures, c .before .before .before .if1 .taken)
+returns c = rw (sym (c .has-line2 .ensures), sym (c .before .has-line .ensures), c .before .before .before .if1 .taken)
 
 returns-2 : tie.Need-returns-2
 returns-2 c = search needs

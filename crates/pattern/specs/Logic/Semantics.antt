@@ -1,5 +1,5 @@
--- What expressions mean: source 000's definitions 1 and 3, clause for clause, in their order; the two clauses of = and ≠ are one, over the two
--- of `Compared`.
+-- What expressions mean: source 000's definitions 1 and 3, clause for clause, in their order, with 002's diamond and 02's either; the two
+-- clauses of = and ≠ are one, over the two of `Compared`.
 -- Assumes nothing.
 use mathlib.Core.Path.{_≡_}
 use mathlib.Core.Logic.{_⊎_}
@@ -52,7 +52,7 @@ abbrev mutual
   Holds M nom (NExp.not φ) x = Holds M nom φ x → ⊥
   -- M, x ⊨ φ ∧ ψ iff M, x ⊨ φ and M, x ⊨ ψ
   Holds M nom (NExp.both φ ψ) x = Holds M nom φ x × Holds M nom ψ x
-  -- M, x ⊨ φ ∨ ψ iff M, x ⊨ φ or M, x ⊨ ψ. 02: "it holds where at least one part holds"
+  -- 02: "it holds where at least one part holds": M, x ⊨ φ ∨ ψ iff M, x ⊨ φ or M, x ⊨ ψ
   Holds M nom (NExp.either φ ψ) x = Holds M nom φ x ⊎ Holds M nom ψ x
   -- 002, definition 2.3: M, x ⊨ ⟨a⟩φ iff there is some y s.t. x → y on a and M, y ⊨ φ
   Holds M nom (NExp.after a φ) x = (y : M .Node) × (M .edge a x y × Holds M nom φ y)

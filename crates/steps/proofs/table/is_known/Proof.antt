@@ -1,4 +1,4 @@
--- `steps::table::is_known` meets its contract: no rule has number 0, and the rules are 23.
+-- `steps::table::is_known` meets its contract: no rule has number 0, and the others have those up to the last.
 -- Assumes nothing.
 use mathlib.Core.Path.{sym}
 use Rattle.steps.proofs.table.is_known.Statement.{statement}
