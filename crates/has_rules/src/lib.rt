@@ -1,5 +1,5 @@
-// Document 01's rules 1 to 7, of a has/lacks line P and the entry of its node, rule 21 of such a line,
-// and rules 24 and 25 of document 02's Job 6.
+// Document 01's rules 1 and 4 to 7, of a has/lacks line P and the entry of its node, rule 21 of such a
+// line, and what the rule of any number gives for it; those of a node with two parts are in `part_rules`.
 use branch_lines::load;
 use lines::line::HasLine;
 use lines::line::Line;
@@ -9,11 +9,15 @@ use lines::line::edge_line;
 use lines::line::has_line;
 use lines::line::is_line;
 use lines::line::side_of;
-use lines::parts::is_negative;
-use lines::parts::is_positive;
 use lines::parts::opposed;
 use lines::parts::same_name;
 use lines::views::HasView;
+use part_rules::has_at;
+use part_rules::lacks_at;
+use part_rules::rule2;
+use part_rules::rule3;
+use part_rules::rule24;
+use part_rules::rule25;
 use pattern::entry::Entry;
 use pattern::table::Kind;
 use pattern::types::Axis;
@@ -29,17 +33,13 @@ use rules::fit::arrive;
 use rules::fit::clash_if;
 use rules::fit::one_if;
 ghost use mathlib.Core.Path.{_≡_};
-ghost use mathlib.Core.Bool.{_&&_};
 ghost use Prim.Native.Nat.{_+_, _*_, _≤_};
 ghost use lib.ListN.{length};
-ghost use Rattle.pattern.specs.File.Table.{sameKind};
 ghost use Rattle.pattern.specs.File.Entries.{HasEntry};
 ghost use Rattle.lines.specs.declared.line.Line.{Line};
-ghost use Rattle.lines.specs.Lines.{has};
-ghost use Rattle.lines.specs.Parts.{positive, negative};
 ghost use Rattle.branch_lines.specs.Stored.{lineAt};
 ghost use Rattle.rules.specs.declared.conclusion.Conclusion.{Conclusion};
-ghost use Rattle.rules.specs.Rules.{when, comparing, rule1, rule2, rule3, rule4, rule5, rule6, rule7, clashIf, opposedHas, rule21, rule24, rule25, ruleAt};
+ghost use Rattle.rules.specs.Rules.{comparing, rule1, rule4, rule5, rule6, rule7, clashIf, opposedHas, rule21, ruleAt};
 
 // 1. "P has/lacks not φ: lacks/has φ."
 fn rule1(h: HasLine, e: Entry) -> Outcome
@@ -50,64 +50,6 @@ fn rule1(h: HasLine, e: Entry) -> Outcome
     let name = h.name;
     let fits = kind.is(Kind::Not);
     one_if(fits, has_line(sign.opposite(), name, e.x))
-}
-
-// Whether the node is of the kind and the line is a has line.
-fn has_at(h: HasLine, e: Entry, wanted: Kind) -> bool
-    ensures { λ r. ⌜ r ≡ sameKind (e .kind) wanted && positive (h .sign) ⌝ }
-{
-    let kind = e.kind;
-    let sign = h.sign;
-    kind.is(wanted) & is_positive(sign)
-}
-
-// Whether the node is of the kind and the line is a lacks line.
-fn lacks_at(h: HasLine, e: Entry, wanted: Kind) -> bool
-    ensures { λ r. ⌜ r ≡ sameKind (e .kind) wanted && negative (h .sign) ⌝ }
-{
-    let kind = e.kind;
-    let sign = h.sign;
-    kind.is(wanted) & is_negative(sign)
-}
-
-// Both parts of the node, x and then y, had or lacked at the name, where the test passed.
-fn both_parts(fits: bool, sign: Sign, h: HasLine, e: Entry) -> Outcome
-    ensures { λ r. ⌜ r ≡ when fits (Conclusion.Two (has sign (h .name) (e .x)) (has sign (h .name) (e .y))) ⌝ }
-{
-    if fits {
-        let name = h.name;
-        let first = has_line(sign, name, e.x);
-        let second = has_line(sign, name, e.y);
-        return Outcome::Fits(Conclusion::Two(first, second));
-    }
-    Outcome::Unfit
-}
-
-// A fork where the test passed: the part x of the node had or lacked at the name, or the part y.
-fn either_part(fits: bool, sign: Sign, h: HasLine, e: Entry) -> Outcome
-    ensures { λ r. ⌜ r ≡ when fits (Conclusion.Fork (has sign (h .name) (e .x)) (has sign (h .name) (e .y))) ⌝ }
-{
-    if fits {
-        let name = h.name;
-        let left = has_line(sign, name, e.x);
-        let right = has_line(sign, name, e.y);
-        return Outcome::Fits(Conclusion::Fork(left, right));
-    }
-    Outcome::Unfit
-}
-
-// 2. "P has both: has φ, then has ψ."
-fn rule2(h: HasLine, e: Entry) -> Outcome
-    ensures { λ r. ⌜ r ≡ rule2 h e ⌝ }
-{
-    both_parts(has_at(h, e, Kind::Both), Sign::Positive, h, e)
-}
-
-// 3. "P lacks both: fork, lacks φ or lacks ψ."
-fn rule3(h: HasLine, e: Entry) -> Outcome
-    ensures { λ r. ⌜ r ≡ rule3 h e ⌝ }
-{
-    either_part(lacks_at(h, e, Kind::Both), Sign::Negative, h, e)
 }
 
 // 4. "P has/lacks name j: is/is not j."
@@ -191,20 +133,6 @@ fn rule21(h: HasLine, q: Line) -> bool
         return false;
     };
     opposes(h, m)
-}
-
-// 24. "P has either, fork, has φ or has ψ."
-fn rule24(h: HasLine, e: Entry) -> Outcome
-    ensures { λ r. ⌜ r ≡ rule24 h e ⌝ }
-{
-    either_part(has_at(h, e, Kind::Either), Sign::Positive, h, e)
-}
-
-// 25. "P lacks either, lacks φ then lacks ψ."
-fn rule25(h: HasLine, e: Entry) -> Outcome
-    ensures { λ r. ⌜ r ≡ rule25 h e ⌝ }
-{
-    both_parts(lacks_at(h, e, Kind::Either), Sign::Negative, h, e)
 }
 
 // What the rule of a number gives where P is a has/lacks line whose node is an entry of the pattern, and

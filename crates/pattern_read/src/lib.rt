@@ -1,8 +1,5 @@
 // Reading a pattern: document 01's refusals 1 to 8, in its order. Any bytes whatever give the number of
 // entries, or the first refusal that applies: each check answers that it passed or the refusal.
-mod fields;
-mod repeats;
-
 use fields::FieldTest;
 use fields::fields_pass;
 use pattern::entry::Entry;
@@ -19,7 +16,7 @@ ghost use Rattle.pattern.specs.Checks.Range.{eachBelow};
 ghost use Rattle.pattern.specs.File.Entries.{HasEntry};
 ghost use Rattle.pattern.specs.File.Reading.{headerCheck, entryCheck, readingOf, findingOf};
 ghost use Rattle.pattern_read.specs.Enums.{checkOf};
-ghost use Rattle.pattern_read.specs.Seen.{Seen};
+ghost use Rattle.repeats.specs.Seen.{Seen};
 
 enum PatternCheck {
     Passed,

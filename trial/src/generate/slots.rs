@@ -7,7 +7,7 @@ use std::iter::once;
 
 const SLOTS: u64 = 2048;
 
-/// The slot of an entry, as `slot_of` of `crates/pattern_read` has it.
+/// The slot of an entry, as `slot_of` of `crates/repeats` has it.
 pub fn slot(entry: [u8; 4]) -> u64 {
     u64::from(u32::from_le_bytes(entry)) * 2_654_435_761 / 2_097_152 % SLOTS
 }
@@ -40,7 +40,7 @@ mod tests {
 
     #[test]
     fn slots_are_those_of_the_proved_reader() {
-        let reader = include_str!("../../../crates/pattern_read/src/repeats.rt");
+        let reader = include_str!("../../../crates/repeats/src/lib.rt");
         assert!(reader.contains("const SLOTS: usize = 2048;"));
         assert!(reader.contains("((w as u64) * 2654435761 / 2097152 % (SLOTS as u64)) as usize"));
     }

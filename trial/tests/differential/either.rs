@@ -4,7 +4,7 @@ use super::faults::either::{self, CONCLUSIONS, COUNTS, ENTRIES, MEANINGS, PREMIS
 use super::faults::either::{counted, stepped, taken};
 use super::faults::model::misread;
 use super::faults::tableau::{Fault, NONE};
-use super::{is_seen_among, planted};
+use super::{is_right, is_seen_among};
 
 #[test]
 fn entries_taken_for_others_are_seen() {
@@ -50,7 +50,7 @@ fn mistakes_in_counting_its_rules_are_seen() {
 
 #[test]
 fn the_planted_judges_are_right_without_a_fault() {
-    assert!(planted(&|operation, lent| misread(either::right, operation, lent)).is_ok());
-    assert!(planted(&|operation, lent| taken(|_| (), operation, lent)).is_ok());
-    assert!(planted(&|operation, lent| stepped(|_| (), operation, lent)).is_ok());
+    is_right(&|operation, lent| misread(either::right, operation, lent));
+    is_right(&|operation, lent| taken(|_| (), operation, lent));
+    is_right(&|operation, lent| stepped(|_| (), operation, lent));
 }

@@ -25,12 +25,19 @@ use trial::generate::{BLOCK, Generator};
 
 /// Enough inputs for every planted fault to be seen.
 const RUN: Run = Run { seed: 1, count: 64 * BLOCK, threads: 2 };
+/// Enough inputs to tell that what a fault is planted in is right without it.
+const CONTROL: Run = Run { count: 16 * BLOCK, ..RUN };
 /// Enough inputs for everything to occur.
 const COMPLETE: Run = Run { count: 160 * BLOCK, ..RUN };
 
 /// Runs an implementation with a planted fault against the independent one.
 fn planted(fault: &(dyn Fn(Operation, Lent) -> Finding + Sync)) -> Result<Tally, Box<Failure>> {
     RUN.go(&[ORACLE, Implementation { name: "planted", run: fault }])
+}
+
+/// Asserts that an implementation in which faults are planted is right without one.
+fn is_right(unplanted: &(dyn Fn(Operation, Lent) -> Finding + Sync)) {
+    assert!(CONTROL.go(&[ORACLE, Implementation { name: "unplanted", run: unplanted }]).is_ok());
 }
 
 /// What is seen of the fault.
@@ -383,16 +390,16 @@ fn an_older_model_judged_as_it_stands_is_seen() {
 #[test]
 fn the_planted_judges_are_right_without_a_fault() {
     let lowest = |pattern: &_, model: &_| check_names(pattern, model).err().map(|refusal| refusal.place);
-    assert!(planted(&|operation, lent| mistaken(lowest, operation, lent)).is_ok());
-    assert!(planted(&|operation, lent| unordered(Edges::right, operation, lent)).is_ok());
-    assert!(planted(&|operation, lent| area::RIGHT.run(operation, lent)).is_ok());
-    assert!(planted(&|operation, lent| asked(area_wanted, operation, lent)).is_ok());
-    assert!(planted(&|operation, lent| misread(area::in_place, operation, lent)).is_ok());
-    assert!(planted(&|operation, lent| NONE.run(operation, lent)).is_ok());
-    assert!(planted(&|operation, lent| rows::RIGHT.run(operation, lent)).is_ok());
-    assert!(planted(&|operation, lent| rows::SWEEPING.run(operation, lent)).is_ok());
-    assert!(planted(&|operation, lent| ordering::RIGHT.run(operation, lent)).is_ok());
-    assert!(planted(&|operation, lent| ordering::RIGHT.run_judged(operation, lent)).is_ok());
+    is_right(&|operation, lent| mistaken(lowest, operation, lent));
+    is_right(&|operation, lent| unordered(Edges::right, operation, lent));
+    is_right(&|operation, lent| area::RIGHT.run(operation, lent));
+    is_right(&|operation, lent| asked(area_wanted, operation, lent));
+    is_right(&|operation, lent| misread(area::in_place, operation, lent));
+    is_right(&|operation, lent| NONE.run(operation, lent));
+    is_right(&|operation, lent| rows::RIGHT.run(operation, lent));
+    is_right(&|operation, lent| rows::SWEEPING.run(operation, lent));
+    is_right(&|operation, lent| ordering::RIGHT.run(operation, lent));
+    is_right(&|operation, lent| ordering::RIGHT.run_judged(operation, lent));
 }
 
 #[test]

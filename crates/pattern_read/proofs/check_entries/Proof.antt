@@ -10,8 +10,8 @@ use Rattle.pattern.specs.Checks.Finding.{passes}
 use Rattle.pattern.specs.Checks.Range.{each-below, each-first}
 use Rattle.pattern.specs.File.Reading.{entryCheck}
 use Rattle.pattern_read.specs.Enums.{checkOf}
-use Rattle.pattern_read.specs.Seen.{slots, Seen}
-use Rattle.pattern_read.proofs.Slots.{seen-next}
+use Rattle.repeats.specs.Seen.{slots, Seen}
+use Rattle.repeats.specs.Slots.{seen-next}
 use Rattle.pattern_read.proofs.check_entries.Statement.{statement}
 use Rattle.pattern_read.proofs.check_entries.Tie as tie
 

@@ -1,2 +1,0 @@
-pub mod Slots
-pub mod Words
