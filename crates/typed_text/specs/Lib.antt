@@ -1,0 +1,5 @@
+-- In the order of reading.
+pub mod Text
+pub mod Fault
+pub mod Tokens
+pub mod Means
