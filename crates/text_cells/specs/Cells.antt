@@ -1,0 +1,2 @@
+-- Trees in cells.
+-- Assumes nothing.

@@ -1,0 +1,4 @@
+-- In the order of reading.
+pub mod Building
+pub mod Held
+pub mod Cells
