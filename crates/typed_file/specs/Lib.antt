@@ -1,3 +1,4 @@
 -- In the order of reading.
 pub mod Trees
 pub mod Entries
+pub mod Completion
