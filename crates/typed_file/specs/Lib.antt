@@ -2,3 +2,4 @@
 pub mod Trees
 pub mod Entries
 pub mod Completion
+pub mod Formed
