@@ -106,40 +106,46 @@ placed-at e es = go (findFrom es e 0) (found-says es e 0)
         (subst (λ (n : ℕ). At es n e) same (s .1 .1), record { new = []; is = sym (append-nil es) })
     go nowhere s = (at-last es e, record { new = e ∷ []; is = refl })
 
+-- each of three parts is what it is once all are completed
+abbrev pub AllStand : List Entry → Part → Part → Part → ℕ → ℕ → ℕ → Type 0
+AllStand es a b c x y z = PartIs es a x × PartIs es b y × PartIs es c z
+
+module _ (a b c : Part) (x y z : ℕ) where
+  all-still : (es fs : List Entry) → Grown es fs → AllStand es a b c x y z → AllStand fs a b c x y z
+  all-still es fs g h = (still a es fs x g (h .0), still b es fs y g (h .1), still c es fs z g (h .2))
+
+  in-turn : (es fs gs hs : List Entry) → PartIs fs a x × Grown es fs → PartIs gs b y × Grown fs gs → PartIs hs c z × Grown gs hs
+      → AllStand hs a b c x y z × Grown es hs
+  in-turn es fs gs hs p q r =
+      let on = grown-on fs gs hs (q .1) (r .1) in
+      ((still a fs hs x on (p .0), still b gs hs y (r .1) (q .0), r .0), grown-on es fs hs (p .1) on)
+
 mutual
   pub completes : (t : Tree) (es : List Entry) → Stands (complete t es .entries) t (complete t es .at) × Grown es (complete t es .entries)
   completes (tree k a b c) es =
       let p = completePart a es in
       let q = completePart b (p .entries) in
       let r = completePart c (q .entries) in
-      let pa = completes-part a es in
-      let qa = completes-part b (p .entries) in
-      let ra = completes-part c (q .entries) in
-      let l = placed-at (record { kind = k; x = p .at; y = q .at; z = r .at }) (r .entries) in
-      let end = l .1 in
-      let from-q = grown-on (q .entries) (r .entries) _ (ra .1) end in
-      let from-p = grown-on (p .entries) (q .entries) _ (qa .1) from-q in (
-        (
-          p .at,
-          (
-            q .at,
-            (
-              r .at,
-              (
-                still a (p .entries) _ (p .at) from-p (pa .0),
-                still b (q .entries) _ (q .at) from-q (qa .0),
-                still c (r .entries) _ (r .at) end (ra .0),
-                l .0,
-              ),
-            ),
-          ),
-        ),
-        grown-on es (p .entries) _ (pa .1) from-p,
-      )
+      let parts = in-turn a b c (p .at) (q .at) (r .at) es (p .entries) (q .entries) (r .entries) (completes-part a es) (completes-part b (p .entries)) (completes-part c (q .entries)) in
+      let own = placed-at (record { kind = k; x = p .at; y = q .at; z = r .at }) (r .entries) in
+      let all = all-still a b c (p .at) (q .at) (r .at) (r .entries) _ (own .1) (parts .0) in
+      ((p .at, (q .at, (r .at, (all .0, all .1, all .2, own .0)))), grown-on es (r .entries) _ (parts .1) (own .1))
 
   pub completes-part : (a : Part) (es : List Entry) → PartIs (completePart a es .entries) a (completePart a es .at) × Grown es (completePart a es .entries)
   completes-part (number n) es = (refl, record { new = []; is = sym (append-nil es) })
   completes-part (entry t) es = completes t es
+
+-- the three parts of an entry, before it is placed itself
+pub parts-stand : (a b c : Part) (es : List Entry)
+    → let p = completePart a es in
+    let q = completePart b (p .entries) in
+    let r = completePart c (q .entries) in
+    AllStand (r .entries) a b c (p .at) (q .at) (r .at)
+parts-stand a b c es =
+    let p = completePart a es in
+    let q = completePart b (p .entries) in
+    let r = completePart c (q .entries) in
+    in-turn a b c (p .at) (q .at) (r .at) es (p .entries) (q .entries) (r .entries) (completes-part a es) (completes-part b (p .entries)) (completes-part c (q .entries)) .0
 
 -- ---- what stands is completed again with nothing new
 abbrev pub Distinct : List Entry → Type 0
@@ -164,7 +170,7 @@ mutual
   again-part (entry t) es x d h = again t es x d h
 
 -- ---- no entry stands twice
-at-split : (es : List Entry) (e f : Entry) (i : ℕ) → At (es ++ (e ∷ [])) i f → At es i f ⊎ ((i ≡ length es) × (e ≡ f))
+pub at-split : (es : List Entry) (e f : Entry) (i : ℕ) → At (es ++ (e ∷ [])) i f → At es i f ⊎ ((i ≡ length es) × (e ≡ f))
 at-split [] e f zero h = inr (refl, h)
 at-split [] e f (suc i) h = absurd h
 at-split (g ∷ es) e f zero h = inl h
@@ -228,5 +234,11 @@ module _ (es : List Entry) (d : Distinct es) where
         → complete (tree k a b (entry s)) then ≡ complete (tree k a b (entry s)) es
     first-z k a b x y p q = rw (there a x p, there b y q, again-part a es x d p, again-part b es y d q, twice)
 
+pub grown-long : (es fs : List Entry) → Grown es fs → length es ≤ length fs
+grown-long es fs g = rw (g .is, length-append es (g .new)) (omega arith)
+
 pub grows : (t : Tree) (es : List Entry) → length es ≤ length (complete t es .entries)
-grows t es = let g = completes t es .1 in rw (g .is, length-append es (g .new)) (omega arith)
+grows t es = grown-long es (complete t es .entries) (completes t es .1)
+
+pub part-grows : (a : Part) (es : List Entry) → length es ≤ length (completePart a es .entries)
+part-grows a es = grown-long es (completePart a es .entries) (completes-part a es .1)

@@ -3,3 +3,4 @@ pub mod Trees
 pub mod Entries
 pub mod Completion
 pub mod Formed
+pub mod ValidEntries
