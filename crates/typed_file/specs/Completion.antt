@@ -234,8 +234,11 @@ module _ (es : List Entry) (d : Distinct es) where
         → complete (tree k a b (entry s)) then ≡ complete (tree k a b (entry s)) es
     first-z k a b x y p q = rw (there a x p, there b y q, again-part a es x d p, again-part b es y d q, twice)
 
-pub grown-long : (es fs : List Entry) → Grown es fs → length es ≤ length fs
+grown-long : (es fs : List Entry) → Grown es fs → length es ≤ length fs
 grown-long es fs g = rw (g .is, length-append es (g .new)) (omega arith)
+
+pub placed-grows : (e : Entry) (es : List Entry) → length es ≤ length (place e es .entries)
+placed-grows e es = grown-long es (place e es .entries) (placed-at e es .1)
 
 pub grows : (t : Tree) (es : List Entry) → length es ≤ length (complete t es .entries)
 grows t es = grown-long es (complete t es .entries) (completes t es .1)

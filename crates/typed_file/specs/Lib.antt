@@ -4,3 +4,4 @@ pub mod Entries
 pub mod Completion
 pub mod Formed
 pub mod ValidEntries
+pub mod RootLast
