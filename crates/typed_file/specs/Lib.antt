@@ -5,3 +5,4 @@ pub mod Completion
 pub mod Formed
 pub mod ValidEntries
 pub mod RootLast
+pub mod ValidFile
