@@ -6,3 +6,4 @@ pub mod Formed
 pub mod ValidEntries
 pub mod RootLast
 pub mod ValidFile
+pub mod Carried
