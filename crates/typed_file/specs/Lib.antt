@@ -7,3 +7,4 @@ pub mod ValidEntries
 pub mod RootLast
 pub mod ValidFile
 pub mod Carried
+pub mod Meaning
