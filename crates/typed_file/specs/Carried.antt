@@ -1,6 +1,6 @@
 -- "Source 000's composition is carried by the rest of each path": a text as its entries carry it means what it means by source 000.
 -- Assumes nothing.
-use mathlib.Core.Path.{_≡_, refl, sym, subst}
+use mathlib.Core.Path.{refl, sym, subst}
 use mathlib.Core.Logic.{inl, inr, ⊎-map}
 use Prim.Native.Nat.{ℕ}
 use Rattle.pattern.specs.declared.types.Comparison.{Comparison}

@@ -2,7 +2,7 @@
 -- may be completed before the rest.
 -- Assumes nothing.
 use mathlib.Core.Path.{_≡_, refl, sym, _∙_, ap, subst}
-use mathlib.Core.Bool.{Bool, true, false, _&&_, false≢true}
+use mathlib.Core.Bool.{Bool, true, false, false≢true}
 use mathlib.Core.Logic.{_⊎_, inl, inr}
 use mathlib.Core.List.{List, [], _∷_, _++_, append-assoc, append-nil}
 use Prim.Native.Nat.{ℕ, zero, suc, _+_, _≤_}
@@ -12,7 +12,7 @@ use lib.ListN.{length, length-append}
 use borrow.Author.Tests.{eqb-true, eq-eqb}
 use Rattle.pattern.specs.Checks.Tests.{and-is-true}
 use Rattle.typed_file.specs.Trees.{Tree, tree, Part, number, entry}
-use Rattle.typed_file.specs.Entries.{Entry, sameEntry, Found, at, nowhere, foundOr, findFrom, Completed, placed, place, complete, completePart}
+use Rattle.typed_file.specs.Entries.{Entry, sameEntry, Found, at, nowhere, foundOr, findFrom, placed, place, complete, completePart}
 
 -- entry i is e
 abbrev pub At : List Entry → ℕ → Entry → Type 0
@@ -106,7 +106,7 @@ placed-at e es = go (findFrom es e 0) (found-says es e 0)
         (subst (λ (n : ℕ). At es n e) same (s .1 .1), record { new = []; is = sym (append-nil es) })
     go nowhere s = (at-last es e, record { new = e ∷ []; is = refl })
 
--- each of three parts is what it is once all are completed
+-- the three parts of an entry are these
 abbrev pub AllStand : List Entry → Part → Part → Part → ℕ → ℕ → ℕ → Type 0
 AllStand es a b c x y z = PartIs es a x × PartIs es b y × PartIs es c z
 
@@ -114,6 +114,7 @@ module _ (a b c : Part) (x y z : ℕ) where
   all-still : (es fs : List Entry) → Grown es fs → AllStand es a b c x y z → AllStand fs a b c x y z
   all-still es fs g h = (still a es fs x g (h .0), still b es fs y g (h .1), still c es fs z g (h .2))
 
+  -- and are so once all are completed
   in-turn : (es fs gs hs : List Entry) → PartIs fs a x × Grown es fs → PartIs gs b y × Grown fs gs → PartIs hs c z × Grown gs hs
       → AllStand hs a b c x y z × Grown es hs
   in-turn es fs gs hs p q r =
@@ -126,12 +127,14 @@ mutual
       let p = completePart a es in
       let q = completePart b (p .entries) in
       let r = completePart c (q .entries) in
-      let parts = in-turn a b c (p .at) (q .at) (r .at) es (p .entries) (q .entries) (r .entries) (completes-part a es) (completes-part b (p .entries)) (completes-part c (q .entries)) in
+      let parts = in-turn a b c (p .at) (q .at) (r .at) es (p .entries) (q .entries) (r .entries)
+      (completes-part a es) (completes-part b (p .entries)) (completes-part c (q .entries)) in
       let own = placed-at (record { kind = k; x = p .at; y = q .at; z = r .at }) (r .entries) in
       let all = all-still a b c (p .at) (q .at) (r .at) (r .entries) _ (own .1) (parts .0) in
       ((p .at, (q .at, (r .at, (all .0, all .1, all .2, own .0)))), grown-on es (r .entries) _ (parts .1) (own .1))
 
-  pub completes-part : (a : Part) (es : List Entry) → PartIs (completePart a es .entries) a (completePart a es .at) × Grown es (completePart a es .entries)
+  pub completes-part : (a : Part) (es : List Entry)
+      → PartIs (completePart a es .entries) a (completePart a es .at) × Grown es (completePart a es .entries)
   completes-part (number n) es = (refl, record { new = []; is = sym (append-nil es) })
   completes-part (entry t) es = completes t es
 
@@ -145,7 +148,8 @@ parts-stand a b c es =
     let p = completePart a es in
     let q = completePart b (p .entries) in
     let r = completePart c (q .entries) in
-    in-turn a b c (p .at) (q .at) (r .at) es (p .entries) (q .entries) (r .entries) (completes-part a es) (completes-part b (p .entries)) (completes-part c (q .entries)) .0
+    in-turn a b c (p .at) (q .at) (r .at) es (p .entries) (q .entries) (r .entries)
+    (completes-part a es) (completes-part b (p .entries)) (completes-part c (q .entries)) .0
 
 -- ---- what stands is completed again with nothing new
 abbrev pub Distinct : List Entry → Type 0
@@ -163,7 +167,8 @@ placed-again e es i d h = go (findFrom es e 0) (found-says es e 0)
 mutual
   pub again : (t : Tree) (es : List Entry) (i : ℕ) → Distinct es → Stands es t i → complete t es ≡ record { at = i; entries = es }
   again (tree k a b c) es i d (x, (y, (z, (p, q, r, h)))) =
-      rw (again-part a es x d p, again-part b es y d q, again-part c es z d r) (placed-again (record { kind = k; x = x; y = y; z = z }) es i d h)
+      rw (again-part a es x d p, again-part b es y d q, again-part c es z d r)
+      (placed-again (record { kind = k; x = x; y = y; z = z }) es i d h)
 
   pub again-part : (a : Part) (es : List Entry) (x : ℕ) → Distinct es → PartIs es a x → completePart a es ≡ record { at = x; entries = es }
   again-part (number n) es x d h = ap (λ (m : ℕ). record { at = m; entries = es }) (sym h)

@@ -7,7 +7,6 @@ use Prim.Native.Nat.{ℕ, _-_, _≤_}
 use native.Mathlib.Omega.{arith}
 use lib.ListN.{length}
 use Rattle.pattern.specs.declared.types.Comparison.{Comparison}
-use Rattle.pattern.specs.declared.table.Sort.{Sort}
 use Rattle.pattern.specs.declared.entry.Entry as pattern
 use Rattle.pattern.specs.Checks.Finding.{passes}
 use Rattle.pattern.specs.Logic.Syntax.{NExp, PExp}
@@ -18,7 +17,7 @@ use Rattle.pattern.specs.File.Entries.{maxEntries}
 use Rattle.pattern.specs.File.Valid.{Valid}
 use Rattle.pattern.specs.Meaning.Expression.{end, nodeExpression, pathExpression, nodeAt, pathAt, rootOf, node-at, path-at, end-at}
 use Rattle.typed_text.specs.Text.{NodeText, RowText}
-use Rattle.typed_text.specs.Tokens.{valueOf, tokensOf, rangeCheck}
+use Rattle.typed_text.specs.Tokens.{tokensOf, rangeCheck}
 use Rattle.typed_text.specs.Means.{nodeMeans}
 use Rattle.typed_file.specs.Trees.{Part, number, nodeTree, rowTree}
 use Rattle.typed_file.specs.Entries.{Entry, complete, entriesOf, fileOf}
@@ -83,7 +82,7 @@ module _ (t : NodeText) (in-range : rangeCheck (tokensOf t) ≡ passes) (few : l
   root-read : rootOf (fileOf (entriesOf (nodeTree t))) ≡ nodeCarried t
   root-read =
       let es = entriesOf (nodeTree t) in
-      let last = root-last Sort.Node (nodeTree t) (inl refl) (formed t in-range) few in
+      let last = root-last (nodeTree t) (inl refl) (formed t in-range) few in
       let root : length es - 1 ≡ complete (nodeTree t) [] .at = omega arith in
       ap (nodeAt (fileOf es)) root ∙ node-read es (file-valid t in-range few) t (complete (nodeTree t) [] .at) (completes (nodeTree t) [] .0)
 

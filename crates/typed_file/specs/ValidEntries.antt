@@ -1,7 +1,7 @@
--- Entries that meet 01's checks of kind, fields and references, among the entries before them: completing a tree that is formed by the table
--- keeps them so.
+-- Entries that meet 01's checks of kind, fields and references, among the entries before them: completing a tree that is formed by the
+-- table keeps them so.
 -- Assumes nothing.
-use mathlib.Core.Path.{_≡_, refl, sym, _∙_, ap, subst}
+use mathlib.Core.Path.{_≡_, refl, sym, subst}
 use mathlib.Core.Logic.{_⊎_, inl, inr}
 use mathlib.Core.List.{List, [], _∷_, _++_}
 use Prim.Native.Nat.{ℕ, zero, suc, _<_}
@@ -11,11 +11,11 @@ use Rattle.pattern.specs.declared.table.Sort.{Sort}
 use Rattle.pattern.specs.declared.table.Field.{Field}
 use Rattle.pattern.specs.declared.entry.Entry as pattern
 use Rattle.pattern.specs.File.Table.{endOfPath, kindOf, sortOf, formOf}
-use Rattle.pattern.specs.File.Fields.{OfFields, OfReference, OfReferences, map-references}
+use Rattle.pattern.specs.File.Fields.{OfFields, OfReference, map-references}
 use Rattle.pattern.specs.File.Valid.{Within}
 use Rattle.typed_file.specs.Trees.{Tree, tree, Part, number, entry}
 use Rattle.typed_file.specs.Entries.{Entry, Found, at, nowhere, findFrom, placed, place, complete, completePart}
-use Rattle.typed_file.specs.Completion.{At, PartIs, AllStand, at-more, at-split, FoundSays, found-says, parts-stand}
+use Rattle.typed_file.specs.Completion.{At, PartIs, at-more, at-split, parts-stand}
 use Rattle.typed_file.specs.Formed.{Refers, Formed, PartOk}
 
 -- the entry as a pattern is read: its kind by the table, and its fields
@@ -32,11 +32,15 @@ Earlier es i s v = (v < i) × ((e : Entry) × (At es v e × (sortOf (kindOf (e .
 abbrev pub EarlierOrEnd : List Entry → ℕ → ℕ → Type 0
 EarlierOrEnd es i v = (v ≡ endOfPath) ⊎ Earlier es i Sort.Path v
 
+-- a field of entry i, if it is a reference, is an earlier entry of the wanted sort, or the end of path
+abbrev pub RefersBack : List Entry → ℕ → Field → ℕ → Type 0
+RefersBack es i = OfReference (Earlier es i Sort.Node) (EarlierOrEnd es i)
+
 -- e, as entry i, meets the checks 4 to 6
 pub record ValidAt (es : List Entry) (i : ℕ) (e : Entry) : Type 0 where
   pub sorted : Known (sortOf (kindOf (e .kind)))
   pub within : OfFields Within (asRead e)
-  pub refers : OfReferences (Earlier es i Sort.Node) (EarlierOrEnd es i) (asRead e)
+  pub refers : OfFields (RefersBack es i) (asRead e)
 
 abbrev pub ValidEntries : List Entry → Type 0
 ValidEntries es = (i : ℕ) (e : Entry) → At es i e → ValidAt es i e
@@ -58,7 +62,8 @@ known Field.Node P h = (Sort.Node, (inl refl, h))
 known Field.Path P h = (Sort.Path, (inr refl, h))
 
 valid-more : (es fs : List Entry) (i : ℕ) (e : Entry) → ValidAt es i e → ValidAt (es ++ fs) i e
-valid-more es fs i e h = record { sorted = h .sorted; within = h .within; refers = map-references (earlier Sort.Node) or-end (asRead e) (h .refers) }
+valid-more es fs i e h =
+    record { sorted = h .sorted; within = h .within; refers = map-references (earlier Sort.Node) or-end (asRead e) (h .refers) }
   where
     earlier : (s : Sort) (v : ℕ) → Earlier es i s v → Earlier (es ++ fs) i s v
     earlier s v h = (h .0, (h .1 .0, (at-more es fs v (h .1 .0) (h .1 .1 .0), h .1 .1 .1)))
@@ -83,11 +88,10 @@ module _ (es : List Entry) where
   stands-sorted : (s : Sort) (t : Tree) (v : ℕ) → Formed s t → PartIs es (entry t) v → Earlier es (length es) s v
   stands-sorted s (tree k a b c) v ok (x, (y, (z, (p, q, r, h)))) = (at-below es v _ h, (_, (h, ok .0)))
 
-  part-holds : (F : Field) (a : Part) (v : ℕ) → PartOk F a → PartIs es a v
-      → Within F v × OfReference (Earlier es (length es) Sort.Node) (EarlierOrEnd es (length es)) F v
+  part-holds : (F : Field) (a : Part) (v : ℕ) → PartOk F a → PartIs es a v → Within F v × RefersBack es (length es) F v
   part-holds F (number n) v ok h = rw h (holds F ok)
     where
-      holds : (F : Field) → PartOk F (number n) → Within F n × OfReference (Earlier es (length es) Sort.Node) (EarlierOrEnd es (length es)) F n
+      holds : (F : Field) → PartOk F (number n) → Within F n × RefersBack es (length es) F n
       holds Field.Unused ok = (ok .0, tt)
       holds Field.Property ok = (ok .0, tt)
       holds Field.Name ok = (ok .0, tt)
@@ -104,8 +108,9 @@ module _ (es : List Entry) where
   part-holds Field.Path (entry t) v ok h = (tt, inr (stands-sorted Sort.Path t v ok h))
 
 mutual
-  pub complete-valid : (s : Sort) (t : Tree) (es : List Entry) → Known s → Formed s t → ValidEntries es → ValidEntries (complete t es .entries)
-  complete-valid s (tree k a b c) es of ok valid =
+  pub complete-valid : {s : Sort} (t : Tree) (es : List Entry) → Known s → Formed s t → ValidEntries es
+      → ValidEntries (complete t es .entries)
+  complete-valid (tree k a b c) es of ok valid =
       let p = completePart a es in
       let q = completePart b (p .entries) in
       let r = completePart c (q .entries) in
@@ -122,4 +127,4 @@ mutual
   part-valid F (number n) es ok valid = valid
   part-valid F (entry t) es ok valid =
       let h = known F (λ s. Formed s t) ok in
-      complete-valid (h .0) t es (h .1 .0) (h .1 .1) valid
+      complete-valid t es (h .1 .0) (h .1 .1) valid

@@ -1,9 +1,9 @@
 -- The file of a text is a valid pattern file.
 -- Assumes nothing.
-use mathlib.Core.Path.{_≡_, refl, sym, _∙_, ap, ap₂, subst}
-use mathlib.Core.Bool.{Bool, true, false, _&&_}
-use mathlib.Core.Logic.{_⊎_, inl, inr}
-use mathlib.Core.List.{List, [], _∷_, _++_}
+use mathlib.Core.Path.{_≡_, refl, sym, _∙_, ap, subst}
+use mathlib.Core.Bool.{Bool, true, false}
+use mathlib.Core.Logic.{inl, inr}
+use mathlib.Core.List.{List, [], _∷_}
 use Prim.Native.Nat.{ℕ, zero, suc, _+_, _-_, _*_, _≤_, _<_}
 use native.Mathlib.Nat.{not-suc-le-zero}
 use native.Mathlib.Omega.{arith}
@@ -14,18 +14,18 @@ use Rattle.pattern.specs.declared.table.Sort.{Sort}
 use Rattle.pattern.specs.declared.entry.Entry as pattern
 use Rattle.pattern.specs.Checks.Tests.{and-is-true}
 use Rattle.pattern.specs.Checks.Finding.{passes}
-use Rattle.pattern.specs.File.Table.{endOfPath, kindOf, sortOf}
+use Rattle.pattern.specs.File.Table.{kindOf, sortOf}
 use Rattle.pattern.specs.File.Entries.{maxEntries, offset, entryAt, sameBytes}
-use Rattle.pattern.specs.File.Reading.{countOf, inRange, sortAt, refersBack}
+use Rattle.pattern.specs.File.Reading.{inRange, sortAt, refersBack}
 use Rattle.pattern.specs.File.Fields.{OfFields, OfReference, OfReferences, map-references, each-field}
-use Rattle.pattern.specs.File.Valid.{ValidHeader, ValidEntry, Valid, Within, EarlierNode, EarlierPath, field-within, field-refers}
+use Rattle.pattern.specs.File.Valid.{ValidEntry, Valid, Within, EarlierNode, EarlierPath, field-within, field-refers}
 use Rattle.typed_text.specs.Text.{NodeText}
 use Rattle.typed_text.specs.Tokens.{tokensOf, rangeCheck}
 use Rattle.typed_file.specs.Trees.{Tree, tree, nodeTree}
-use Rattle.typed_file.specs.Entries.{Entry, sameEntry, complete, entriesOf, entryBytes, fileOf}
-use Rattle.typed_file.specs.Completion.{At, Stands, Distinct, completes, complete-distinct}
+use Rattle.typed_file.specs.Entries.{Entry, complete, entriesOf, entryBytes, fileOf}
+use Rattle.typed_file.specs.Completion.{At, Distinct, completes, complete-distinct}
 use Rattle.typed_file.specs.Formed.{Formed, formed}
-use Rattle.typed_file.specs.ValidEntries.{asRead, Known, Earlier, EarlierOrEnd, ValidAt, ValidEntries, at-below, complete-valid}
+use Rattle.typed_file.specs.ValidEntries.{asRead, Known, Earlier, EarlierOrEnd, ValidEntries, complete-valid}
 use Rattle.typed_file.specs.RootLast.{root-last}
 
 -- ---- the bytes of a file
@@ -139,8 +139,8 @@ pub tree-valid : (t : Tree) → Formed Sort.Node t → length (entriesOf t) ≤ 
 tree-valid (tree k a b c) ok few =
     let t = tree k a b c in
     let stands = completes t [] .0 in
-    entries-valid (entriesOf t) (complete-valid Sort.Node t [] (inl refl) ok (λ i e h. absurd h)) (complete-distinct t [] (λ i j e h g. absurd h)) few
-    (complete t [] .at) _ (root-last Sort.Node t (inl refl) ok few) (stands .1 .1 .1 .3) (ok .0)
+    entries-valid (entriesOf t) (complete-valid t [] (inl refl) ok (λ i e h. absurd h)) (complete-distinct t [] (λ i j e h g. absurd h)) few
+    (complete t [] .at) _ (root-last t (inl refl) ok few) (stands .1 .1 .1 .3) (ok .0)
 
 pub file-valid : (t : NodeText) → rangeCheck (tokensOf t) ≡ passes → length (entriesOf (nodeTree t)) ≤ maxEntries
     → Valid (fileOf (entriesOf (nodeTree t))) (length (entriesOf (nodeTree t)))
