@@ -128,8 +128,10 @@ module _ (M : Model) (nom : Naming M) where
     node-same (NodeText.both t s) = both-same (node-same t) (node-same s)
     node-same (NodeText.either t s) = either-same (node-same t) (node-same s)
     node-same (NodeText.after k t) = after-same (valueOf k) (node-same t)
-    node-same (NodeText.same r k q) = compare-same Comparison.Same (valueOf k) (row-same r end and-so end-last) (row-same q end and-so end-last)
-    node-same (NodeText.differ r k q) = compare-same Comparison.Differ (valueOf k) (row-same r end and-so end-last) (row-same q end and-so end-last)
+    node-same (NodeText.same r k q) =
+        compare-same Comparison.Same (valueOf k) (row-same r end and-so end-last) (row-same q end and-so end-last)
+    node-same (NodeText.differ r k q) =
+        compare-same Comparison.Differ (valueOf k) (row-same r end and-so end-last) (row-same q end and-so end-last)
 
     -- a row with what follows it is the row composed with it
     row-same : (r : RowText) (rest : PExp) → SamePath (rowCarried r rest) (PExp.compose (rowMeans r) rest)
@@ -139,4 +141,7 @@ module _ (M : Model) (nom : Naming M) where
     row-same (RowText.test t r) rest = compose-same (test-same (node-same t)) (row-same r rest) and-so regrouped
     row-same (RowText.brace a b r) rest =
         let carried = rowCarried r rest in
-        union-same (row-same a carried) (row-same b carried) and-so distributed and-so compose-same itself (row-same r rest) and-so regrouped
+        union-same (row-same a carried) (row-same b carried)
+        and-so distributed
+        and-so compose-same itself (row-same r rest)
+        and-so regrouped

@@ -60,9 +60,11 @@ module _ (es : List Entry) (valid : Valid (fileOf es) (length es)) where
     node-read (NodeText.either t u) i (x, (y, (z, (p, q, r, h)))) = node-of i _ h ∙ ap₂ NExp.either (node-read t x p) (node-read u y q)
     node-read (NodeText.after k t) i (x, (y, (z, (p, q, r, h)))) = node-of i _ h ∙ ap₂ NExp.after p (node-read t y q)
     node-read (NodeText.same a k b) i (x, (y, (z, (p, q, r, h)))) =
-        node-of i _ h ∙ compared Comparison.Same p (row-read a (number endOfPath) end ends y q) (row-read b (number endOfPath) end ends z r)
+        let rest = number endOfPath in
+        node-of i _ h ∙ compared Comparison.Same p (row-read a rest end ends y q) (row-read b rest end ends z r)
     node-read (NodeText.differ a k b) i (x, (y, (z, (p, q, r, h)))) =
-        node-of i _ h ∙ compared Comparison.Differ p (row-read a (number endOfPath) end ends y q) (row-read b (number endOfPath) end ends z r)
+        let rest = number endOfPath in
+        node-of i _ h ∙ compared Comparison.Differ p (row-read a rest end ends y q) (row-read b rest end ends z r)
 
     -- a row, where what follows it is read as α
     row-read : (r : RowText) (rest : Part) (α : PExp) → ((v : ℕ) → PartIs es rest v → pathAt (fileOf es) v ≡ α)
@@ -75,8 +77,10 @@ module _ (es : List Entry) (valid : Valid (fileOf es) (length es)) where
     row-read (RowText.test t r) rest α behind i (x, (y, (z, (p, q, s, h)))) =
         path-of i _ h ∙ ap₂ (λ (φ : NExp) (β : PExp). PExp.compose (PExp.test φ) β) (node-read t x p) (row-read r rest α behind y q)
     row-read (RowText.brace a b r) rest α behind i (x, (y, (z, (p, q, s, h)))) =
-        path-of i _ h
-        ∙ ap₂ PExp.union (row-read a (rowTree r rest) (rowCarried r α) (row-read r rest α behind) x p) (row-read b (rowTree r rest) (rowCarried r α) (row-read r rest α behind) y q)
+        let next = rowTree r rest in
+        let β = rowCarried r α in
+        let both : (v : ℕ) → PartIs es next v → pathAt (fileOf es) v ≡ β = λ v h. row-read r rest α behind v h in
+        path-of i _ h ∙ ap₂ PExp.union (row-read a next β both x p) (row-read b next β both y q)
 
 module _ (t : NodeText) (in-range : rangeCheck (tokensOf t) ≡ passes) (few : length (entriesOf (nodeTree t)) ≤ maxEntries) where
   root-read : rootOf (fileOf (entriesOf (nodeTree t))) ≡ nodeCarried t
@@ -84,7 +88,8 @@ module _ (t : NodeText) (in-range : rangeCheck (tokensOf t) ≡ passes) (few : l
       let es = entriesOf (nodeTree t) in
       let last = root-last (nodeTree t) (inl refl) (formed t in-range) few in
       let root : length es - 1 ≡ complete (nodeTree t) [] .at = omega arith in
-      ap (nodeAt (fileOf es)) root ∙ node-read es (file-valid t in-range few) t (complete (nodeTree t) [] .at) (completes (nodeTree t) [] .0)
+      ap (nodeAt (fileOf es)) root
+      ∙ node-read es (file-valid t in-range few) t (complete (nodeTree t) [] .at) (completes (nodeTree t) [] .0)
 
   pub file-means : (M : Model) (nom : Naming M) (u : M .Node)
       → Holds M nom (rootOf (fileOf (entriesOf (nodeTree t)))) u ↔ Holds M nom (nodeMeans t) u

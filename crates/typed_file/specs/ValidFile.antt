@@ -29,7 +29,7 @@ use Rattle.typed_file.specs.ValidEntries.{asRead, Known, Earlier, Earlie
 use Rattle.typed_file.specs.RootLast.{root-last}
 
 -- ---- the bytes of a file
-file-length : (es : List Entry) → length (fileOf es) ≡ 6 + 4 * length es
+pub file-length : (es : List Entry) → length (fileOf es) ≡ 6 + 4 * length es
 file-length [] = refl
 file-length (e ∷ es) = let l = file-length es in omega arith
 
@@ -46,7 +46,8 @@ byte-at (f ∷ es) (suc i) e h j l =
     ap (λ (n : ℕ). getD (entryBytes (f ∷ es)) n 0) on ∙ byte-at es i e h j l
 
 module _ (es : List Entry) where
-  file-byte : (i : ℕ) (e : Entry) → At es i e → (j n : ℕ) → j < 4 → n ≡ 6 + 4 * i + j → getD (fileOf es) n 0 ≡ getD (entryBytes (e ∷ [])) j 0
+  file-byte : (i : ℕ) (e : Entry) → At es i e → (j n : ℕ) → j < 4 → n ≡ offset i + j
+      → getD (fileOf es) n 0 ≡ getD (entryBytes (e ∷ [])) j 0
   file-byte i e h j n l p =
       let on : n ≡ suc (suc (suc (suc (suc (suc (4 * i + j)))))) = omega arith in
       ap (λ (m : ℕ). getD (fileOf es) m 0) on ∙ byte-at es i e h j l
@@ -76,7 +77,7 @@ module _ (es : List Entry) where
       let z = same 3 (offset i + 3) (offset j + 3) (omega arith) (omega arith) (omega arith) (kxy-z .1) in
       λ k. record { kind = kind k; x = x k; y = y k; z = z k }
     where
-      same : (b m n : ℕ) → b < 4 → m ≡ 6 + 4 * i + b → n ≡ 6 + 4 * j + b → eqb (getD (fileOf es) m 0) (getD (fileOf es) n 0) ≡ true
+      same : (b m n : ℕ) → b < 4 → m ≡ offset i + b → n ≡ offset j + b → eqb (getD (fileOf es) m 0) (getD (fileOf es) n 0) ≡ true
           → getD (entryBytes (e ∷ [])) b 0 ≡ getD (entryBytes (f ∷ [])) b 0
       same b m n l p q t = sym (file-byte i e h b m l p) ∙ (eqb-true _ _ t ∙ file-byte j f g b n l q)
 
@@ -94,12 +95,13 @@ module _ (es : List Entry) (valid : ValidEntries es) (distinct : Distinct es) wh
       let e = s .0 in
       let v = valid i e (s .1) in
       let read = sym (entry-at es i e (s .1)) in
+      let refers = map-references (earlier Sort.Node) or-end (asRead e) (v .refers) in
       record {
         sorted = subst Known (sym (sort-at es i e (s .1))) (v .sorted);
         in-range = each-field inRange Within field-within (entryAt f i) .1 (subst (OfFields Within) read (v .within));
         refers-back =
             each-field (refersBack f i) (OfReference (EarlierNode f i) (EarlierPath f i)) (field-refers f i) (entryAt f i) .1
-            (subst (OfReferences (EarlierNode f i) (EarlierPath f i)) read (map-references (earlier Sort.Node) or-end (asRead e) (v .refers)));
+            (subst (OfReferences (EarlierNode f i) (EarlierPath f i)) read refers);
         different = λ j m. differs j (some-at es j (omega arith)) m (sameBytes f j i) refl;
       }
     where
