@@ -191,7 +191,7 @@ path-if true Sort.Path h = (refl, refl)
 path-if true Sort.Neither h = (refl, cc)
 path-if false s h = (h, cc)
 
-field-within : (F : Field) (v : ℕ) → (inRange F v ≡ true) ↔ Within F v
+pub field-within : (F : Field) (v : ℕ) → (inRange F v ≡ true) ↔ Within F v
 field-within Field.Unused v = (eqb-true v 0, eq-eqb v 0)
 field-within Field.Property v = (leb-true v maxProperty, le-leb v maxProperty)
 field-within Field.Name v = (leb-true v maxName, le-leb v maxName)
@@ -216,7 +216,7 @@ module _ (bs : List ℕ) (k : ℕ) where
       together (inl e) = rw (eq-eqb v endOfPath e)
       together (inr h) = rw (lt-ltb v k (h .0), h .1) (or-true (eqb v endOfPath))
 
-  field-refers : (F : Field) (v : ℕ) → (refersBack bs k F v ≡ true) ↔ OfReference (EarlierNode bs k) (EarlierPath bs k) F v
+  pub field-refers : (F : Field) (v : ℕ) → (refersBack bs k F v ≡ true) ↔ OfReference (EarlierNode bs k) (EarlierPath bs k) F v
   field-refers Field.Unused v = (λ h. tt, λ h. refl)
   field-refers Field.Property v = (λ h. tt, λ h. refl)
   field-refers Field.Name v = (λ h. tt, λ h. refl)
