@@ -16,7 +16,7 @@ abbrev pub path : ℕ → ℕ → ℕ → ℕ → Made
 path takes kind x y = record { takes = takes; tag = 0; kind = kind; x = x; y = y; z = 0 }
 
 -- the cell that a letter makes of its number and the three items on top of the stack; kind 0 where it makes none
-abbrev pub madeBy : ℕ → ℕ → ℕ → ℕ → ℕ → Made
+unfoldable pub madeBy : ℕ → ℕ → ℕ → ℕ → ℕ → Made
 madeBy letter value a b c =
     pick (eqb letter 112) (node 0 1 value 0 0)
     (pick (eqb letter 110) (node 0 2 value 0 0)
@@ -38,7 +38,7 @@ marks puts under upper = record { puts = puts; under = under; upper = upper }
 abbrev pub barMark : ℕ → ℕ → ℕ
 barMark a b = pick (eqb (a % 2) 0) b 3072
 
-abbrev pub marksBy : ℕ → ℕ → ℕ → ℕ → Marks
+unfoldable pub marksBy : ℕ → ℕ → ℕ → ℕ → Marks
 marksBy letter value a b =
     pick (eqb letter 38) (marks 1 1024 0)
     (pick (eqb letter 124) (marks 1 (barMark a b) 0)
@@ -86,9 +86,9 @@ builtFrom s [] = s
 builtFrom s (w ∷ ws) = takenWord w (builtFrom s ws)
 
 -- the stack begins with items that no text asks for
-abbrev pub start : State
+unfoldable pub start : State
 start = record { count = 0; cells = []; items = replicate 2051 0 }
 
 -- the cells of tokens
-abbrev pub builtOf : List ℕ → State
+unfoldable pub builtOf : List ℕ → State
 builtOf ws = builtFrom start ws

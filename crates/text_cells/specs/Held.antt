@@ -4,18 +4,18 @@ use mathlib.Core.Path.{_≡_, refl, sym, ap, subst, _∙_}
 use mathlib.Core.Bool.{Bool, true, false}
 use mathlib.Core.List.{List, [], _∷_, _++_}
 use Prim.Native.Nat.{ℕ, zero, suc, _+_, _-_, _*_, _/_, _%_, _≤_, _<_}
-use native.Mathlib.Nat.{not-suc-le-zero, le-of-suc-le-suc, add-zero}
+use native.Mathlib.Nat.{not-suc-le-zero, le-of-suc-le-suc, add-zero, sub-zero, zero-sub, min-eq-left}
 use native.Mathlib.Omega.{arith}
 use borrow.Author.Tests.{eq-eqb, ne-eqb}
 use lib.Dec.{eqb}
-use lib.ListN.{length, getD, set, drop, length-set, length-append}
-use lib.Seq.{drop-cons, drop-set-lt, getD-drop, drop-drop}
+use lib.ListN.{length, getD, set, take, drop, replicate, length-set, length-append, length-take, length-replicate}
+use lib.Seq.{drop-cons, drop-length, getD-drop, getD-take, drop-drop}
 use Rattle.wire.specs.Choice.{pick}
 use Rattle.wire.specs.Blocks.{putFrom}
 use Rattle.wire.specs.Onto.{onto, onto-more}
 use Rattle.text_cells.specs.declared.letters.Made.{Made}
 use Rattle.text_cells.specs.declared.letters.Marks.{Marks}
-use Rattle.text_cells.specs.Building.{madeBy, marksBy, State, withCell, withMarks, taken, takenWord}
+use Rattle.text_cells.specs.Building.{madeBy, marksBy, State, withCell, withMarks, taken, takenWord, builtFrom, start, builtOf}
 
 -- ---- laws
 
@@ -31,6 +31,7 @@ pub record Took (word : ℕ) (cells : List ℕ) (count : ℕ) (items : List ℕ)
   pub low : at ≤ at′ + 2
   pub high : at′ ≤ at + 2
   pub one-more : count′ ≤ count + 1
+  pub same-long : length items′ ≡ length items
   pub after : (s : State) (out : List ℕ) → length out ≡ 4096 → Holding s out count cells at items → Holding (takenWord word s) out count′ cells′ at′ items′
 
 -- a cell takes at most three items, and marks are at most two
@@ -51,6 +52,7 @@ put-either true p q = p
 put-either false p q = q
 
 pub made-few : (letter value a b c : ℕ) → FewTaken (madeBy letter value a b c)
+unfolding madeBy
 made-few letter value a b c =
     taken-either (eqb letter 112) (record { takes-few = omega arith; tag-few = omega arith })
     (taken-either (eqb letter 110) (record { takes-few = omega arith; tag-few = omega arith })
@@ -65,6 +67,7 @@ made-few letter value a b c =
     (record { takes-few = omega arith; tag-few = omega arith }))))))))))
 
 pub marks-few : (letter value a b : ℕ) → FewPut (marksBy letter value a b)
+unfolding marksBy
 marks-few letter value a b =
     put-either (eqb letter 38) (record { puts-few = omega arith })
     (put-either (eqb letter 124) (record { puts-few = omega arith })
@@ -73,6 +76,13 @@ marks-few letter value a b =
     (put-either (eqb letter 61) (record { puts-few = omega arith })
     (put-either (eqb letter 35) (record { puts-few = omega arith })
     (record { puts-few = omega arith }))))))
+
+-- the same of what the code has of the letter
+pub taken-few-of : (m : Made) (letter value a b c : ℕ) → m ≡ madeBy letter value a b c → FewTaken m
+taken-few-of m letter value a b c e = subst FewTaken (sym e) (made-few letter value a b c)
+
+pub put-few-of : (m : Marks) (letter value a b : ℕ) → m ≡ marksBy letter value a b → m .puts ≤ 2
+put-few-of m letter value a b e = subst FewPut (sym e) (marks-few letter value a b) .puts-few
 
 -- an item stored below the stack is its uppermost
 pub drop-put : (xs : List ℕ) (k v : ℕ) → k < length xs → drop k (set xs k v) ≡ v ∷ drop (suc k) xs
@@ -131,6 +141,7 @@ module _ (word count : ℕ) (cells items : List ℕ) (at : ℕ) where
           low = omega (arith, few, two);
           high = omega (arith, few, two);
           one-more = omega arith;
+          same-long = simp length-set;
           after = λ s out l held.
               subst (λ (t : State). Holding t out count cells (at - marks .puts) (set (set items (at - 1) (marks .under)) (at - 2) (marks .upper)))
               (sym (taken-marks s (held .items-are) h))
@@ -162,6 +173,7 @@ module _ (word count : ℕ) (cells items : List ℕ) (at : ℕ) where
           low = omega (arith, few, two);
           high = omega (arith, few, two);
           one-more = omega arith;
+          same-long = simp length-set;
           after = λ s out l held.
               subst (λ (t : State). Holding t out (count + 1) (putFrom cells (4 * count) 0 cell) (at + made .takes - 1) (set items (at + made .takes - 1) (2 * (256 + count) + made .tag)))
               (sym (taken-cell s (held .items-are) h))
@@ -207,3 +219,68 @@ module _ (word count : ℕ) (cells items : List ℕ) (at : ℕ) where
             Took word cells count items at (at + m .takes - 1) (count + 1) (putFrom cells (4 * count) 0 (m .kind ∷ m .x ∷ m .y ∷ m .z ∷ []))
             (set items (at + m .takes - 1) (2 * (256 + count) + m .tag)))
         (sym e) (took-cell (λ k. h (ap (λ (m : Made). m .kind) e ∙ k)) fits)
+
+-- the tokens from the last down to i are taken
+pub record Going (tokens : List ℕ) (n : ℕ) (lent cells items : List ℕ) (at count i : ℕ) : Type 0 where
+  pub left : i ≤ n
+  pub long : length items ≡ 4099
+  pub low : 2 * i ≤ at
+  pub high : at + 2 * i ≤ 4096
+  pub few : count + i ≤ 1024
+  pub held : Holding (builtOf (drop i (take n tokens))) lent count cells at items
+
+drop-replicate : (k n v : ℕ) → drop k (replicate n v) ≡ replicate (n - k) v
+drop-replicate zero n v = ap (λ (m : ℕ). replicate m v) (sym (sub-zero n))
+drop-replicate (suc k) zero v = ap (λ (m : ℕ). replicate m v) (sym (zero-sub (suc k)))
+drop-replicate (suc k) (suc n) v = drop-replicate k n v ∙ ap (λ (m : ℕ). replicate m v) shorter
+  where
+    shorter : n - k ≡ suc n - suc k
+    shorter = omega arith
+
+module _ (tokens lent : List ℕ) (n : ℕ) (fits : n ≤ 1024) (tokens-long : length tokens ≡ 1024) (lent-long : length lent ≡ 4096) where
+  front-long : length (take n tokens) ≡ n
+  front-long = length-take n tokens ∙ min-eq-left (omega (arith, fits, tokens-long))
+
+  pub going-start : Going tokens n lent lent (replicate 4099 0) 2048 0 n
+  unfolding builtOf builtFrom start onto
+  going-start = record {
+    left = omega arith;
+    long = length-replicate {A = ℕ} 4099 0;
+    low = omega (arith, fits);
+    high = omega (arith, fits);
+    few = omega (arith, fits);
+    held = subst (λ (ws : List ℕ). Holding (builtFrom start ws) lent 0 lent 2048 (replicate 4099 0)) (sym none-left)
+        (record { count-is = refl; cells-are = refl; items-are = drop-replicate 2048 4099 0; four-each = refl });
+  }
+    where
+      none-left : drop n (take n tokens) ≡ []
+      none-left = ap (λ (k : ℕ). drop k (take n tokens)) (sym front-long) ∙ drop-length (take n tokens)
+
+  pub going-on : (cells items cells′ items′ : List ℕ) (at count at′ count′ i : ℕ) → 0 < i → Going tokens n lent cells items at count i
+      → Took (getD tokens (i - 1) 0) cells count items at at′ count′ cells′ items′ → Going tokens n lent cells′ items′ at′ count′ (i - 1)
+  unfolding builtOf builtFrom
+  going-on cells items cells′ items′ at count at′ count′ i some g t = record {
+    left = omega (arith, g .left);
+    long = t .same-long ∙ g .long;
+    low = omega (arith, g .low, t .low);
+    high = omega (arith, g .high, t .high);
+    few = omega (arith, g .few, t .one-more);
+    held = subst (λ (ws : List ℕ). Holding (builtFrom start ws) lent count′ cells′ at′ items′) (sym one-left)
+        (t .after (builtFrom start (drop i (take n tokens))) lent lent-long (g .held));
+  }
+    where
+      behind : suc (i - 1) ≡ i
+      behind = omega (arith, some)
+
+      one-left : drop (i - 1) (take n tokens) ≡ getD tokens (i - 1) 0 ∷ drop i (take n tokens)
+      one-left =
+          drop-cons (take n tokens) (i - 1) 0 (omega (arith, front-long, g .left, some))
+          ∙ ap (λ (w : ℕ). w ∷ drop (suc (i - 1)) (take n tokens)) (getD-take n tokens (i - 1) 0 (omega (arith, g .left, some)))
+          ∙ ap (λ (k : ℕ). getD tokens (i - 1) 0 ∷ drop k (take n tokens)) behind
+
+  pub going-end : (cells items : List ℕ) (at count i : ℕ) → i ≤ 0 → Going tokens n lent cells items at count i
+      → (count ≡ builtOf (take n tokens) .count) × (cells ≡ onto (builtOf (take n tokens) .cells) lent)
+  going-end cells items at count i none g =
+      let end : i ≡ 0 = omega (arith, none) in
+      let h = subst (λ (k : ℕ). Holding (builtOf (drop k (take n tokens))) lent count cells at items) end (g .held) in
+      (h .count-is, h .cells-are)

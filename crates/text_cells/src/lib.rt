@@ -7,8 +7,9 @@ mod letters;
 use letters::made_by;
 use letters::marks_by;
 ghost use mathlib.Core.Path.{_≡_};
+ghost use mathlib.Core.List.{[], _∷_};
 ghost use Prim.Native.Nat.{_*_, _≤_, _<_};
-ghost use lib.ListN.{take};
+ghost use lib.ListN.{length, take};
 ghost use Rattle.wire.specs.Blocks.{putFrom};
 ghost use Rattle.wire.specs.Onto.{onto};
 ghost use Rattle.text_cells.specs.Building.{builtOf};
@@ -33,20 +34,20 @@ struct Built {
 }
 
 // Stores a cell behind those that are there.
-fn store(cells: &mut [u16; CELLS], count: u16, cell: [u16; 4])
+fn store(cells: &mut [u16; CELLS], count: u16, kind: u16, x: u16, y: u16, z: u16)
     requires { ⌜ count < 1024 ⌝ }
-    ensures { λ _. ⌜ now (cells .exit) ≡ putFrom (now (cells .entry)) (4 * count) 0 cell ⌝ }
+    ensures { λ _. ⌜ now (cells .exit) ≡ putFrom (now (cells .entry)) (4 * count) 0 (kind ∷ x ∷ y ∷ z ∷ []) ⌝ }
 {
     let at = 4 * count as usize;
-    cells[at] = cell[0];
-    cells[at + 1] = cell[1];
-    cells[at + 2] = cell[2];
-    cells[at + 3] = cell[3];
+    cells[at] = kind;
+    cells[at + 1] = x;
+    cells[at + 2] = y;
+    cells[at + 3] = z;
 }
 
 // One token.
 fn take(word: u16, cells: &mut [u16; CELLS], count: u16, items: &mut [u16; ITEMS], at: usize) -> Built
-    requires { ⌜ (2 ≤ at) × (at ≤ 4096) × (count < 1024) ⌝ }
+    requires { ⌜ (length (now items) ≡ 4099) × (2 ≤ at) × (at ≤ 4096) × (count < 1024) ⌝ }
     ensures { λ r. ⌜ Took word (now (cells .entry)) count (now (items .entry)) at (r .at) (r .count) (now (cells .exit)) (now (items .exit)) ⌝ }
 {
     let letter = (word / 256) as u8;
@@ -58,7 +59,7 @@ fn take(word: u16, cells: &mut [u16; CELLS], count: u16, items: &mut [u16; ITEMS
         items[at - 2] = marks.upper;
         return Built { at: at - marks.puts, count };
     }
-    store(cells, count, [made.kind, made.x, made.y, made.z]);
+    store(cells, count, made.kind, made.x, made.y, made.z);
     let above = at + made.takes - 1;
     items[above] = 2 * (256 + count) + made.tag;
     Built { at: above, count: count + 1 }
@@ -66,7 +67,7 @@ fn take(word: u16, cells: &mut [u16; CELLS], count: u16, items: &mut [u16; ITEMS
 
 // Makes the cells of the first n tokens, and answers how many they are; the root's is the last.
 pub fn build(tokens: &[u16; TOKENS], n: u16, cells: &mut [u16; CELLS]) -> u16
-    requires { ⌜ n ≤ 1024 ⌝ }
+    requires { ⌜ (length (now cells) ≡ 4096) × (length (now tokens) ≡ 1024) × (n ≤ 1024) ⌝ }
     ensures count { λ r. ⌜ r ≡ builtOf (take n (now (tokens .entry))) .count ⌝ }
     ensures cells { λ r. ⌜ now (cells .exit) ≡ onto (builtOf (take n (now (tokens .entry))) .cells) (now (cells .entry)) ⌝ }
 {

@@ -4,7 +4,7 @@ use borrow.Author.Needs.{needs}
 use mathlib.Core.Path.{_≡_, ap, _∙_}
 use Prim.Native.Nat.{ℕ, _≤_}
 use native.Mathlib.Omega.{arith}
-use Rattle.text_cells.specs.Held.{FewTaken, FewPut, made-few, marks-few, marks-took, cell-took}
+use Rattle.text_cells.specs.Held.{taken-few-of, put-few-of, marks-took, cell-took}
 use Rattle.text_cells.proofs.take.Statement.{statement}
 use Rattle.text_cells.proofs.take.Tie as tie
 use Rattle.text_cells.proofs.take.Reads as reads
@@ -103,13 +103,15 @@ element-write-items-2 c = search needs
 
 -- src/lib.rt:59:28
 sub-t26 : tie.Need-sub-t26
-sub-t26 c = ?
+sub-t26 c =
+    let few = put-few-of (c .before .marks-by .result) _ _ _ _ (c .before .marks-by .ensures) in
+    omega (arith, few, c .before .before .before .before .before .before .before .before .before .before .pre)
 
 -- src/lib.rt:59:9
 returns : tie.Need-returns
 returns c =
     let l = c .before .before .before .before .before .before .before .before .before .before in
-    marks-took (l .args .word) (l .args .count) (l .args .cells .now) (l .args .items .now) (l .args .at) (l .pre .0) (let g = l .good in ?)
+    marks-took (l .args .word) (l .args .count) (l .args .cells .now) (l .args .items .now) (l .args .at) (l .pre .1) (omega (arith, l .pre))
     (c .before .before .before .before .before .before .made-by .result) (c .before .marks-by .result) (c .before .before .before .before .before .before .made-by .ensures) (c .before .marks-by .ensures) (c .before .before .before .before .if1 .taken)
 
 -- src/lib.rt:61:5
@@ -118,7 +120,9 @@ store-requires c κs = search needs
 
 -- src/lib.rt:62:17
 add-above : tie.Need-add-above
-add-above c = ?
+add-above c =
+    let few = taken-few-of (c .before .before .before .before .before .made-by .result) _ _ _ _ _ (c .before .before .before .before .before .made-by .ensures) in
+    omega (arith, few .takes-few, c .before .before .before .before .before .before .before .before .before .pre)
 
 -- src/lib.rt:62:17
 sub-above : tie.Need-sub-above
@@ -134,15 +138,21 @@ mul-items-3 c = search needs
 
 -- src/lib.rt:63:20
 add-items-2 : tie.Need-add-items-2
-add-items-2 c = ?
+add-items-2 c =
+    let few = taken-few-of (c .before .before .before .before .before .before .made-by .result) _ _ _ _ _ (c .before .before .before .before .before .before .made-by .ensures) in
+    omega (arith, few .takes-few, few .tag-few, c .before .before .before .before .before .before .before .before .before .before .pre)
 
 -- src/lib.rt:63:5
 mul-items-4 : tie.Need-mul-items-4
-mul-items-4 c = ?
+mul-items-4 c =
+    let few = taken-few-of (c .before .before .before .before .before .before .made-by .result) _ _ _ _ _ (c .before .before .before .before .before .before .made-by .ensures) in
+    omega (arith, few .takes-few, few .tag-few, c .before .before .before .before .before .before .before .before .before .before .pre)
 
 -- src/lib.rt:63:5
 element-write-items-3 : tie.Need-element-write-items-3
-element-write-items-3 c = ?
+element-write-items-3 c =
+    let few = taken-few-of (c .before .before .before .before .before .before .made-by .result) _ _ _ _ _ (c .before .before .before .before .before .before .made-by .ensures) in
+    omega (arith, few .takes-few, few .tag-few, c .before .before .before .before .before .before .before .before .before .before .pre)
 
 -- src/lib.rt:64:31
 add-t11 : tie.Need-add-t11
@@ -152,8 +162,9 @@ add-t11 c = search needs
 returns-2 : tie.Need-returns-2
 returns-2 c =
     let l = c .before .before .before .before .before .before .before .before .before .before in
-    cell-took (l .args .word) (l .args .count) (l .args .cells .now) (l .args .items .now) (l .args .at) (l .pre .0) (omega (arith, l .pre, l .good))
-    (c .before .before .before .before .before .before .made-by .result) (c .before .before .before .before .before .before .made-by .ensures) (c .before .before .before .before .if1 .left) (l .pre .2)
+    rw (c .before .before .store .ensures)
+    (cell-took (l .args .word) (l .args .count) (l .args .cells .now) (l .args .items .now) (l .args .at) (l .pre .1) (omega (arith, l .pre))
+    (c .before .before .before .before .before .before .made-by .result) (c .before .before .before .before .before .before .made-by .ensures) (c .before .before .before .before .if1 .left) (l .pre .3))
 
 pub take-spec : {M : Type 1} → statement M
 take-spec =

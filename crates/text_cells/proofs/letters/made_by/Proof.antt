@@ -2,6 +2,7 @@
 -- Assumes nothing.
 use borrow.Author.Needs.{needs}
 use borrow.Author.Tests.{ne-eqb}
+use Rattle.text_cells.specs.Building.{madeBy}
 use Rattle.text_cells.proofs.letters.made_by.Statement.{statement}
 use Rattle.text_cells.proofs.letters.made_by.Tie as tie
 use Rattle.text_cells.proofs.letters.made_by.Reads as reads
@@ -55,46 +56,57 @@ node-requires-7 c κs = search needs
 
 -- src/letters.rt:32:1
 returns : tie.Need-returns
+unfolding madeBy
 returns c = rw (c .before .match .keys1) (c .node .ensures)
 
 -- src/letters.rt:32:1
 returns-2 : tie.Need-returns-2
+unfolding madeBy
 returns-2 c = rw (c .before .match .keys2) (c .node2 .ensures)
 
 -- src/letters.rt:32:1
 returns-3 : tie.Need-returns-3
+unfolding madeBy
 returns-3 c = rw (c .before .match .keys3) (c .node3 .ensures)
 
 -- src/letters.rt:32:1
 returns-4 : tie.Need-returns-4
+unfolding madeBy
 returns-4 c = rw (c .before .match .keys4) (c .node4 .ensures)
 
 -- src/letters.rt:32:1
 returns-5 : tie.Need-returns-5
+unfolding madeBy
 returns-5 c = rw (c .before .match .keys5) (c .node5 .ensures)
 
 -- src/letters.rt:32:1
 returns-6 : tie.Need-returns-6
+unfolding madeBy
 returns-6 c = rw (c .before .match .keys6) (c .node6 .ensures)
 
 -- src/letters.rt:32:1
 returns-7 : tie.Need-returns-7
+unfolding madeBy
 returns-7 c = rw (c .before .match .keys7) (c .path .ensures)
 
 -- src/letters.rt:32:1
 returns-8 : tie.Need-returns-8
+unfolding madeBy
 returns-8 c = rw (c .before .match .keys8) (c .path2 .ensures)
 
 -- src/letters.rt:32:1
 returns-9 : tie.Need-returns-9
+unfolding madeBy
 returns-9 c = rw (c .before .match .keys9) (c .path3 .ensures)
 
 -- src/letters.rt:32:1
 returns-10 : tie.Need-returns-10
+unfolding madeBy
 returns-10 c = rw (c .before .match .keys10) (c .path4 .ensures)
 
 -- src/letters.rt:32:1
 returns-11 : tie.Need-returns-11
+unfolding madeBy
 returns-11 c =
     let r = c .before .match .rest in
     rw (

@@ -2,6 +2,7 @@
 -- Assumes nothing.
 use borrow.Author.Needs.{needs}
 use borrow.Author.Tests.{ne-eqb}
+use Rattle.text_cells.specs.Building.{marksBy}
 use Rattle.text_cells.proofs.letters.marks_by.Statement.{statement}
 use Rattle.text_cells.proofs.letters.marks_by.Tie as tie
 use Rattle.text_cells.proofs.letters.marks_by.Reads as reads
@@ -75,30 +76,37 @@ with-marks-requires-7 c κs = search needs
 
 -- src/letters.rt:76:1
 returns : tie.Need-returns
+unfolding marksBy
 returns c = rw (c .before .match .keys1) (c .with-marks .ensures)
 
 -- src/letters.rt:76:1
 returns-2 : tie.Need-returns-2
+unfolding marksBy
 returns-2 c = rw (c .before .before .match .keys2, ← c .before .bar-mark .ensures) (c .with-marks2 .ensures)
 
 -- src/letters.rt:76:1
 returns-3 : tie.Need-returns-3
+unfolding marksBy
 returns-3 c = rw (c .before .match .keys3) (c .with-marks3 .ensures)
 
 -- src/letters.rt:76:1
 returns-4 : tie.Need-returns-4
+unfolding marksBy
 returns-4 c = rw (c .before .match .keys4) (c .with-marks4 .ensures)
 
 -- src/letters.rt:76:1
 returns-5 : tie.Need-returns-5
+unfolding marksBy
 returns-5 c = rw (c .before .match .keys5) (c .with-marks5 .ensures)
 
 -- src/letters.rt:76:1
 returns-6 : tie.Need-returns-6
+unfolding marksBy
 returns-6 c = rw (c .before .match .keys6) (c .with-marks6 .ensures)
 
 -- src/letters.rt:76:1
 returns-7 : tie.Need-returns-7
+unfolding marksBy
 returns-7 c =
     let r = c .before .match .rest in
     rw (
