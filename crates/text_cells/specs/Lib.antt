@@ -2,3 +2,4 @@
 pub mod Building
 pub mod Held
 pub mod Cells
+pub mod Built

@@ -44,11 +44,11 @@ end : PartOk Field.Path (number endOfPath)
 end = (tt, refl)
 
 -- each number is in its range
-abbrev InRange : List Token → Type 0
+abbrev pub InRange : List Token → Type 0
 InRange [] = Unit {0}
 InRange (t ∷ ts) = (t .value ≤ limitOf (t .letter)) × InRange ts
 
-in-range : (ts : List Token) → rangeCheck ts ≡ passes → InRange ts
+pub in-range : (ts : List Token) → rangeCheck ts ≡ passes → InRange ts
 in-range [] h = tt
 in-range (t ∷ ts) h =
     let a = then-passes (refusesIf (ltb (limitOf (t .letter)) (t .value)) 31 (t .place + 1)) (rangeCheck ts) h in
