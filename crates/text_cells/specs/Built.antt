@@ -52,8 +52,8 @@ module _ (b s : State) (four : Four s) (g : Grown b s) where
       → NodeBuilt b (taken 112 v s) (tree 1 (number v) unused unused) × NodeBuilt b (taken 110 v s) (tree 2 (number v) unused unused)
   unfolding madeBy
   leaf-made v l e = (
-    node-cell s four (node 0 1 v 0 0) 1 refl (number v) unused unused (number-field s v l) (zero-field s) (zero-field s) b g refl e,
-    node-cell s four (node 0 2 v 0 0) 2 refl (number v) unused unused (number-field s v l) (zero-field s) (zero-field s) b g refl e,
+    node-cell s four (node 0 1 v 0 0) 1 refl (omega arith) (number v) unused unused (number-field s v l) (zero-field s) (zero-field s) b g refl e,
+    node-cell s four (node 0 2 v 0 0) 2 refl (omega arith) (number v) unused unused (number-field s v l) (zero-field s) (zero-field s) b g refl e,
   )
 
   module _ (c : ℕ) (t : Tree) (below : c < s .count) (is : CellIs (s .cells) c t) (top : s .items ≡ nodeItem c ∷ b .items) where
@@ -61,40 +61,40 @@ module _ (b s : State) (four : Four s) (g : Grown b s) where
     unfolding madeBy
     not-made =
         subst (λ (items : List ℕ). NodeBuilt b (taken 33 0 (on s items)) (tree 3 (entry t) unused unused)) (sym top)
-        (node-cell (on s (nodeItem c ∷ b .items)) four (node 1 3 (nodeItem c / 2) 0 0) 3 refl (entry t) unused unused (cell-field s c t below is) (zero-field s) (zero-field s) b
+        (node-cell (on s (nodeItem c ∷ b .items)) four (node 1 3 (nodeItem c / 2) 0 0) 3 refl (omega arith) (entry t) unused unused (cell-field s c t below is) (zero-field s) (zero-field s) b
         (grown-on b s _ g (grown-none s _)) refl refl)
 
     after-made : (v : ℕ) → v < 256 → NodeBuilt b (taken 60 v s) (tree 5 (number v) (entry t) unused)
     unfolding madeBy
     after-made v l =
         subst (λ (items : List ℕ). NodeBuilt b (taken 60 v (on s items)) (tree 5 (number v) (entry t) unused)) (sym top)
-        (node-cell (on s (nodeItem c ∷ b .items)) four (node 1 5 v (nodeItem c / 2) 0) 5 refl (number v) (entry t) unused (number-field s v l) (cell-field s c t below is) (zero-field s) b
+        (node-cell (on s (nodeItem c ∷ b .items)) four (node 1 5 v (nodeItem c / 2) 0) 5 refl (omega arith) (number v) (entry t) unused (number-field s v l) (cell-field s c t below is) (zero-field s) b
         (grown-on b s _ g (grown-none s _)) refl refl)
 
   -- a pair: the mark between its parts is the kind
-  pair-made : (c d mark k : ℕ) (t u : Tree) → c < s .count → d < s .count → CellIs (s .cells) c t → CellIs (s .cells) d u → mark / 256 ≡ suc k
+  pair-made : (c d mark k : ℕ) (t u : Tree) → c < s .count → d < s .count → CellIs (s .cells) c t → CellIs (s .cells) d u → mark / 256 ≡ suc k → suc k < 256
       → s .items ≡ nodeItem c ∷ mark ∷ nodeItem d ∷ b .items → NodeBuilt b (taken 40 0 s) (tree (suc k) (entry t) (entry u) unused)
   unfolding madeBy
-  pair-made c d mark k t u l m is js kind top =
+  pair-made c d mark k t u l m is js kind few top =
       let items = nodeItem c ∷ mark ∷ nodeItem d ∷ b .items in
       let made = node 3 (mark / 256) (nodeItem c / 2) (nodeItem d / 2) 0 in
       subst (λ (items : List ℕ). NodeBuilt b (taken 40 0 (on s items)) (tree (suc k) (entry t) (entry u) unused)) (sym top)
       (subst (λ (b? : Bool). NodeBuilt b (pick b? (withMarks (marksBy 40 0 (nodeItem c) mark) (on s items)) (withCell made (on s items))) (tree (suc k) (entry t) (entry u) unused))
       (sym (ne-eqb (mark / 256) 0 (λ e. omega (arith, e, kind))))
-      (node-cell (on s items) four made (suc k) kind (entry t) (entry u) unused (cell-field s c t l is) (cell-field s d u m js) (zero-field s) b
+      (node-cell (on s items) four made (suc k) kind few (entry t) (entry u) unused (cell-field s c t l is) (cell-field s d u m js) (zero-field s) b
       (grown-on b s _ g (grown-none s _)) refl refl))
 
   -- a comparison: the mark between its paths is the kind and the channel
-  compare-made : (f h mark k v : ℕ) (p q : Part) → FieldIs (s .cells) (s .count) f p → FieldIs (s .cells) (s .count) h q → mark / 256 ≡ suc k
+  compare-made : (f h mark k v : ℕ) (p q : Part) → FieldIs (s .cells) (s .count) f p → FieldIs (s .cells) (s .count) h q → mark / 256 ≡ suc k → suc k < 256
       → mark % 256 ≡ v → s .items ≡ rowItem f ∷ mark ∷ rowItem h ∷ b .items → NodeBuilt b (taken 91 0 s) (tree (suc k) (number v) p q)
   unfolding madeBy
-  compare-made f h mark k v p q ps qs kind channel top =
+  compare-made f h mark k v p q ps qs kind few channel top =
       let items = rowItem f ∷ mark ∷ rowItem h ∷ b .items in
       let made = node 3 (mark / 256) (mark % 256) (rowItem f / 2) (rowItem h / 2) in
       subst (λ (items : List ℕ). NodeBuilt b (taken 91 0 (on s items)) (tree (suc k) (number v) p q)) (sym top)
       (subst (λ (b? : Bool). NodeBuilt b (pick b? (withMarks (marksBy 91 0 (rowItem f) mark) (on s items)) (withCell made (on s items))) (tree (suc k) (number v) p q))
       (sym (ne-eqb (mark / 256) 0 (λ e. omega (arith, e, kind))))
-      (node-cell (on s items) four made (suc k) kind (number v) p q (channel, omega arith) (half-field s f p ps) (half-field s h q qs) b
+      (node-cell (on s items) four made (suc k) kind few (number v) p q (channel, omega arith) (half-field s f p ps) (half-field s h q qs) b
       (grown-on b s _ g (grown-none s _)) refl refl))
 
   -- a step and a jump
@@ -103,10 +103,10 @@ module _ (b s : State) (four : Four s) (g : Grown b s) where
   unfolding madeBy
   item-made f v rest under l is top = (
     subst (λ (items : List ℕ). RowBuilt b (taken 47 v (on s items)) under (entry (tree 8 (number v) rest unused))) (sym top)
-    (row-cell (on s (rowItem f ∷ under)) four (path 1 8 v (rowItem f / 2)) 8 refl (number v) rest unused (number-field s v l) (half-field s f rest is) (zero-field s) b
+    (row-cell (on s (rowItem f ∷ under)) four (path 1 8 v (rowItem f / 2)) 8 refl (omega arith) (number v) rest unused (number-field s v l) (half-field s f rest is) (zero-field s) b
     (grown-on b s _ g (grown-none s _)) refl under refl),
     subst (λ (items : List ℕ). RowBuilt b (taken 64 v (on s items)) under (entry (tree 9 (number v) rest unused))) (sym top)
-    (row-cell (on s (rowItem f ∷ under)) four (path 1 9 v (rowItem f / 2)) 9 refl (number v) rest unused (number-field s v l) (half-field s f rest is) (zero-field s) b
+    (row-cell (on s (rowItem f ∷ under)) four (path 1 9 v (rowItem f / 2)) 9 refl (omega arith) (number v) rest unused (number-field s v l) (half-field s f rest is) (zero-field s) b
     (grown-on b s _ g (grown-none s _)) refl under refl),
   )
 
@@ -115,7 +115,7 @@ module _ (b s : State) (four : Four s) (g : Grown b s) where
   unfolding madeBy
   test-made c f t rest under l is fs top =
       subst (λ (items : List ℕ). RowBuilt b (taken 63 0 (on s items)) under (entry (tree 10 (entry t) rest unused))) (sym top)
-      (row-cell (on s (nodeItem c ∷ rowItem f ∷ under)) four (path 2 10 (nodeItem c / 2) (rowItem f / 2)) 10 refl (entry t) rest unused (cell-field s c t l is) (half-field s f rest fs) (zero-field s) b
+      (row-cell (on s (nodeItem c ∷ rowItem f ∷ under)) four (path 2 10 (nodeItem c / 2) (rowItem f / 2)) 10 refl (omega arith) (entry t) rest unused (cell-field s c t l is) (half-field s f rest fs) (zero-field s) b
       (grown-on b s _ g (grown-none s _)) refl under refl)
 
   brace-made : (f h r : ℕ) (p q : Part) (under : List ℕ) → FieldIs (s .cells) (s .count) f p → FieldIs (s .cells) (s .count) h q
@@ -151,25 +151,25 @@ bar-row s f n under top = ap (λ (m : ℕ). on s (m ∷ s .items)) over
 self : (s : State) → Grown s s
 self s = grown-none s (s .items)
 
-pair-over : (b r s : State) (mark k : ℕ) (t u : Tree) → NodeBuilt b r u → NodeBuilt (on r (mark ∷ r .items)) s t → mark / 256 ≡ suc k
+pair-over : (b r s : State) (mark k : ℕ) (t u : Tree) → NodeBuilt b r u → NodeBuilt (on r (mark ∷ r .items)) s t → mark / 256 ≡ suc k → suc k < 256
     → NodeBuilt b (taken 40 0 s) (tree (suc k) (entry t) (entry u) unused)
-pair-over b r s mark k t u second first kind =
+pair-over b r s mark k t u second first kind few =
     let between = grown-on r (on r (mark ∷ r .items)) s (grown-none r (mark ∷ r .items)) (first .grown) in
     pair-made b s (first .four) (grown-on b r s (second .grown) between) (first .cell) (second .cell) mark k t u (omega (arith, first .last))
-    (omega (arith, second .last, between .count-grows)) (first .is) (cell-grown r s between (second .cell) u (second .is)) kind
+    (omega (arith, second .last, between .count-grows)) (first .is) (cell-grown r s between (second .cell) u (second .is)) kind few
     (first .on-top ∙ ap (λ (l : List ℕ). nodeItem (first .cell) ∷ mark ∷ l) (second .on-top))
 
 either-over : (b r s : State) (t u : Tree) → NodeBuilt b r u → NodeBuilt (taken 124 0 r) s t → NodeBuilt b (taken 40 0 s) (tree 12 (entry t) (entry u) unused)
 either-over b r s t u second first =
-    pair-over b r s 3072 11 t u second (subst (λ (x : State). NodeBuilt x s t) (bar-node r (second .cell) (b .items) (second .on-top)) first) refl
+    pair-over b r s 3072 11 t u second (subst (λ (x : State). NodeBuilt x s t) (bar-node r (second .cell) (b .items) (second .on-top)) first) refl (omega arith)
 
 compare-over : (b r s : State) (mark k v : ℕ) (p q : Part) → RowBuilt (on b (510 ∷ b .items)) r (b .items) q
-    → RowBuilt (on r (510 ∷ mark ∷ r .items)) s (mark ∷ r .items) p → mark / 256 ≡ suc k → mark % 256 ≡ v
+    → RowBuilt (on r (510 ∷ mark ∷ r .items)) s (mark ∷ r .items) p → mark / 256 ≡ suc k → suc k < 256 → mark % 256 ≡ v
     → NodeBuilt b (taken 91 0 s) (tree (suc k) (number v) p q)
-compare-over b r s mark k v p q second first kind channel =
+compare-over b r s mark k v p q second first kind few channel =
     let between = grown-on r (on r (510 ∷ mark ∷ r .items)) s (grown-none r (510 ∷ mark ∷ r .items)) (first .grown) in
     compare-made b s (first .four) (grown-on b r s (grown-on b (on b (510 ∷ b .items)) r (grown-none b (510 ∷ b .items)) (second .grown)) between) (first .field)
-    (second .field) mark k v p q (first .is) (field-grown r s between (second .field) q (second .is)) kind channel
+    (second .field) mark k v p q (first .is) (field-grown r s between (second .field) q (second .is)) kind few channel
     (first .on-top ∙ ap (λ (l : List ℕ). rowItem (first .field) ∷ mark ∷ l) (second .on-top))
 
 test-over : (b r s : State) (t : Tree) (rest : Part) (under : List ℕ) → RowBuilt b r under rest → NodeBuilt r s t
@@ -229,7 +229,7 @@ mutual
   node-built (NodeText.both t u) i ys h =
       let a = node-built t _ _ (h .1) in
       let b = node-built u _ _ (a .1 .1) in
-      (pair-over (run ys) _ _ 1024 3 (nodeTree t) (nodeTree u) (b .0) (a .0) refl, b .1 .1)
+      (pair-over (run ys) _ _ 1024 3 (nodeTree t) (nodeTree u) (b .0) (a .0) refl (omega arith), b .1 .1)
   node-built (NodeText.either t u) i ys h =
       let a = node-built t _ _ (h .1) in
       let b = node-built u _ _ (a .1 .1) in
@@ -241,12 +241,12 @@ mutual
       let a = row-built r _ _ (h .1) in
       let b = row-built q _ _ (a .1 .1) in
       (compare-over (run ys) _ _ (1536 + valueOf k) 5 (valueOf k) _ _ (b .0 255 (run ys .items) (number 255) refl end-field)
-      (a .0 255 _ (number 255) refl end-field) (omega (arith, a .1 .0)) (omega (arith, a .1 .0)), b .1 .1)
+      (a .0 255 _ (number 255) refl end-field) (omega (arith, a .1 .0)) (omega arith) (omega (arith, a .1 .0)), b .1 .1)
   node-built (NodeText.differ r k q) i ys h =
       let a = row-built r _ _ (h .1) in
       let b = row-built q _ _ (a .1 .1) in
       (compare-over (run ys) _ _ (1792 + valueOf k) 6 (valueOf k) _ _ (b .0 255 (run ys .items) (number 255) refl end-field)
-      (a .0 255 _ (number 255) refl end-field) (omega (arith, a .1 .0)) (omega (arith, a .1 .0)), b .1 .1)
+      (a .0 255 _ (number 255) refl end-field) (omega (arith, a .1 .0)) (omega arith) (omega (arith, a .1 .0)), b .1 .1)
 
   row-built : (r : RowText) (i : ℕ) (ys : List Token) → InRange (rowTokens r i ys)
       → Goes (run ys) (run (rowTokens r i ys)) (λ rest. rowTree r rest) × InRange ys

@@ -25,7 +25,7 @@ use Rattle.text_cells.specs.Building.{madeBy, marksBy, State, withCell, 
 abbrev mutual
   pub CellIs : List ℕ → ℕ → Tree → Type 0
   CellIs cells c (tree k x y z) =
-      (4 * c + 4 ≤ length cells) × (getD cells (4 * c) 0 ≡ k) × FieldIs cells c (getD cells (4 * c + 1) 0) x
+      (4 * c + 4 ≤ length cells) × ((getD cells (4 * c) 0 ≡ k) × (k < 256)) × FieldIs cells c (getD cells (4 * c + 1) 0) x
       × FieldIs cells c (getD cells (4 * c + 2) 0) y × FieldIs cells c (getD cells (4 * c + 3) 0) z
 
   pub FieldIs : List ℕ → ℕ → ℕ → Part → Type 0
@@ -40,7 +40,7 @@ mutual
       = λ j l. List·getD-append cells more 0 (4 * c + j) (omega (arith, h .0)) in
       (
         omega (arith, h .0, length-append cells more),
-        List·getD-append cells more 0 (4 * c) (omega (arith, h .0)) ∙ h .1,
+        (List·getD-append cells more 0 (4 * c) (omega (arith, h .0)) ∙ h .1 .0, h .1 .1),
         subst (λ (f : ℕ). FieldIs (cells ++ more) c f x) (sym (at 1 (omega arith))) (field-more x cells more c c _ (omega arith) (h .2)),
         subst (λ (f : ℕ). FieldIs (cells ++ more) c f y) (sym (at 2 (omega arith))) (field-more y cells more c c _ (omega arith) (h .3)),
         subst (λ (f : ℕ). FieldIs (cells ++ more) c f z) (sym (at 3 (omega arith))) (field-more z cells more c c _ (omega arith) (h .4)),
@@ -122,7 +122,7 @@ pub record RowBuilt (s s′ : State) (under : List ℕ) (p : Part) : Type 0 wher
   pub is : FieldIs (s′ .cells) (s′ .count) field p
 
 -- ---- one cell
-module _ (s : State) (four : Four s) (m : Made) (k : ℕ) (kind : m .kind ≡ k) (x y z : Part) (xs : FieldIs (s .cells) (s .count) (m .x) x)
+module _ (s : State) (four : Four s) (m : Made) (k : ℕ) (kind : m .kind ≡ k) (few : k < 256) (x y z : Part) (xs : FieldIs (s .cells) (s .count) (m .x) x)
     (ys : FieldIs (s .cells) (s .count) (m .y) y) (zs : FieldIs (s .cells) (s .count) (m .z) z) where
   abbrev four-numbers : List ℕ
   four-numbers = m .kind ∷ m .x ∷ m .y ∷ m .z ∷ []
@@ -137,7 +137,7 @@ module _ (s : State) (four : Four s) (m : Made) (k : ℕ) (kind : m .kind ≡ k)
       = λ f p h. field-more p (s .cells) four-numbers (s .count) (s .count) f (omega arith) h in
       (
         omega (arith, four, length-append (s .cells) four-numbers),
-        ap (λ (n : ℕ). getD (s .cells ++ four-numbers) n 0) (sym (add-zero (4 * s .count))) ∙ number-at 0 ∙ kind,
+        (ap (λ (n : ℕ). getD (s .cells ++ four-numbers) n 0) (sym (add-zero (4 * s .count))) ∙ number-at 0 ∙ kind, few),
         subst (λ (f : ℕ). FieldIs (s .cells ++ four-numbers) (s .count) f x) (sym (number-at 1)) (lift (m .x) x xs),
         subst (λ (f : ℕ). FieldIs (s .cells ++ four-numbers) (s .count) f y) (sym (number-at 2)) (lift (m .y) y ys),
         subst (λ (f : ℕ). FieldIs (s .cells ++ four-numbers) (s .count) f z) (sym (number-at 3)) (lift (m .z) z zs),
