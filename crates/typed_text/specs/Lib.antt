@@ -5,3 +5,4 @@ pub mod Tokens
 pub mod Means
 pub mod Machine
 pub mod Viable
+pub mod Spelled
