@@ -122,12 +122,12 @@ fn may_pass(want: u8) -> bool
 }
 
 // Whether the text may end.
-fn may_end(stack: &[u8; STACK], at: usize) -> bool
-    requires { ⌜ at ≤ 4097 ⌝ }
+fn may_end(stack: &[u8], at: usize) -> bool
+    requires { ⌜ at ≤ length (now stack) ⌝ }
     ensures { λ r. ⌜ r ≡ allOptional (wants (drop at (now (stack .entry)))) ⌝ }
 {
     let mut k = at;
-    while k < STACK {
+    while k < stack.len() {
         if !may_pass(stack[k]) {
             return false;
         }
