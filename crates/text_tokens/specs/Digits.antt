@@ -7,14 +7,16 @@ use Prim.Native.Nat.{ℕ, suc, _+_, _*_, _-_, _≤_, _<_}
 use native.Mathlib.Nat.{add-zero}
 use native.Mathlib.Numerals.{add-one}
 use native.Mathlib.Omega.{arith}
-use lib.Dec.{ltb, eqb}
+use lib.Dec.{ltb}
 use lib.ListN.{length, getD, take, drop}
 use lib.Seq.{drop-cons, drop-length}
-use borrow.Author.Tests.{ltb-true, ltb-false, lt-ltb, le-ltb}
+use borrow.Author.Tests.{ltb-true, ltb-false, lt-ltb, le-ltb, ne-eqb}
 use Rattle.typed_text.specs.Text.{isDigit}
 use Rattle.typed_text.specs.Tokens.{valueFrom}
-use Rattle.typed_text.specs.Spelled.{digitsLength, capped}
+use Rattle.typed_text.specs.Spelled.{takesNumber, digitsLength, capped}
 use Rattle.text_tokens.specs.declared.token.Number.{Number}
+use Rattle.text_tokens.specs.declared.token.NextToken.{NextToken}
+use Rattle.text_tokens.specs.Reading.{digitsAt, numberAt, tokenAt}
 
 pub capped-small : (v : ℕ) → v ≤ 255 → capped v ≡ v
 capped-small v l = go (ltb v 255) refl
@@ -62,9 +64,6 @@ module _ (xs : List ℕ) (v at : ℕ) (low : v ≤ 255) where
       → goingOn v (drop at xs) at ≡ goingOn (capped (v * 10 + (getD xs at 0 - 48))) (drop (at + 1) xs) (at + 1)
   digit-more l is = rw (drop-cons xs at 0 l, add-one at, is) (λ k. record { value = value k; after = after k })
     where
-      rest : List ℕ
-      rest = drop (suc at) xs
-
       value : capped (valueFrom (v * 10 + (getD xs at 0 - 48)) (take (digitsLength (drop (suc at) xs)) (drop (suc at) xs)))
           ≡ capped (valueFrom (capped (v * 10 + (getD xs at 0 - 48))) (take (digitsLength (drop (suc at) xs)) (drop (suc at) xs)))
       value = sym (capped-from (v * 10 + (getD xs at 0 - 48)) (take (digitsLength (drop (suc at) xs)) (drop (suc at) xs)))
@@ -79,3 +78,29 @@ module _ (xs : List ℕ) (v at : ℕ) (low : v ≤ 255) where
   -- the text's end
   pub digits-end : at ≡ length xs → Ends
   digits-end e = rw (e, drop-length, capped-small v low, add-zero)
+
+-- ---- the number and the token at a place
+
+module _ (xs : List ℕ) (at : ℕ) where
+  pub number-end : at ≡ length xs → record { value = 0; after = at } ≡ numberAt xs at
+  number-end e = rw (e, drop-length, add-zero)
+
+  module _ (l : at < length xs) where
+    pub number-nought : getD xs at 0 ≡ 48 → record { value = 0; after = at + 1 } ≡ numberAt xs at
+    number-nought e = rw (drop-cons xs at 0 l, e)
+
+    pub number-other : (getD xs at 0 ≡ 48 → ⊥) → digitsAt xs at ≡ numberAt xs at
+    number-other h = rw (drop-cons xs at 0 l, ne-eqb (getD xs at 0) 48 h)
+
+    -- a letter without a number
+    pub token-alone : takesNumber (getD xs at 0) ≡ false
+        → NextToken.Token (record { letter = getD xs at 0; value = 0; after = at + 1 }) ≡ tokenAt xs at
+    token-alone h = rw (lt-ltb at (length xs) l, h, add-zero)
+
+    -- a letter with its number
+    pub token-number : takesNumber (getD xs at 0) ≡ true → (k : Number) → k ≡ numberAt xs (at + 1)
+        → NextToken.Token (record { letter = getD xs at 0; value = k .value; after = k .after }) ≡ tokenAt xs at
+    token-number h k e = rw (lt-ltb at (length xs) l, h, e)
+
+  pub token-end : length xs ≤ at → NextToken.End ≡ tokenAt xs at
+  token-end l = rw (le-ltb at (length xs) l)

@@ -3,17 +3,17 @@
 use mathlib.Core.Path.{_≡_, refl, sym, ap, _∙_}
 use mathlib.Core.Bool.{Bool, true, false, _&&_, _||_}
 use mathlib.Core.List.{List, [], _∷_, _++_, append-assoc}
-use Prim.Native.Nat.{ℕ, zero, suc, _+_, _≤_, _<_}
+use Prim.Native.Nat.{ℕ, zero, suc, _+_, _-_, _≤_, _<_}
 use native.Mathlib.Numerals.{add-one}
 use native.Mathlib.Omega.{arith}
 use lib.Dec.{eqb}
 use lib.ListN.{length, getD, take, drop}
 use lib.Seq.{drop-cons, drop-length, drop-at, length-take-le}
-use borrow.Author.Tests.{eqb-true, ne-eqb}
+use borrow.Author.Tests.{eq-eqb, ne-eqb}
 use Rattle.wire.specs.Choice.{pick}
 use Rattle.wire.specs.Blocks.{putFrom}
 use Rattle.wire.specs.Onto.{put-at}
-use Rattle.typed_text.specs.Machine.{Want, oneOf, Next, none, some, nodeTakes, rowTakes, takes, putOn, next, allOptional, Place, fault, nextPlace, placeFrom}
+use Rattle.typed_text.specs.Machine.{Want, oneOf, Next, none, some, nodeTakes, rowTakes, takes, putOn, next, allOptional, Place, fault, endPlace, nextPlace, placeFrom}
 use Rattle.text_tokens.specs.Stack.{wantOf, wants, newWants, taken, passable}
 
 -- ---- what a byte is not
@@ -110,20 +110,32 @@ module _ (text stack : List ℕ) (at i : ℕ) (inside : i < length text) where
         → placeAt text stack at i ≡ placeAt text stack (at + 1) i
     place-passed t p = top ∙ rw (t, p, add-one at, drop-cons text i 0 inside)
 
--- the byte is taken, and new wants take the place of the one that took it
-pub place-taken : (text stack : List ℕ) (below i : ℕ) (new : List ℕ) → i < length text → length new ≡ 5 → below + 4 < length stack
-    → taken (getD stack (below + 4) 0) (getD text i 0) ≡ some (wants new)
-    → placeAt text stack (below + 4) i ≡ placeAt text (putFrom stack below 0 new) below (i + 1)
-place-taken text stack below i new inside five l t =
-    top text stack (below + 4) i inside l
-    ∙ rw (t, add-one i)
-    (ap (λ (ws : List Want). placeFrom (drop (suc i) text) ws (suc i)) (sym (wants-append new (drop (suc (below + 4)) stack)) ∙ ap wants (sym stored)))
-  where
-    behind : below + length new ≡ suc (below + 4)
-    behind = omega (arith, five)
+    -- the byte is taken, and new wants take the place of the one that took it
+    pub place-taken : (new : List ℕ) → length new ≡ 5 → 4 ≤ at → taken (getD stack at 0) (getD text i 0) ≡ some (wants new)
+        → placeAt text stack at i ≡ placeAt text (putFrom stack (at - 4) 0 new) (at - 4) (i + 1)
+    place-taken new five low t =
+        top
+        ∙ rw (t, add-one i)
+        (ap (λ (ws : List Want). placeFrom (drop (suc i) text) ws (suc i)) (sym (wants-append new (drop (suc at) stack)) ∙ ap wants (sym stored)))
+      where
+        behind : at - 4 + length new ≡ suc at
+        behind = omega (arith, five, low)
 
-    stored : drop below (putFrom stack below 0 new) ≡ new ++ drop (suc (below + 4)) stack
-    stored =
-        ap (drop below) (put-at stack below new (omega (arith, five, l)) ∙ append-assoc (take below stack) new (drop (below + length new) stack))
-        ∙ drop-at (take below stack) (new ++ drop (below + length new) stack) below (length-take-le below stack (omega (arith, l)))
-        ∙ ap (λ (n : ℕ). new ++ drop n stack) behind
+        stored : drop (at - 4) (putFrom stack (at - 4) 0 new) ≡ new ++ drop (suc at) stack
+        stored =
+            ap (drop (at - 4))
+            (put-at stack (at - 4) new (omega (arith, five, l, low)) ∙ append-assoc (take (at - 4) stack) new (drop (at - 4 + length new) stack))
+            ∙ drop-at (take (at - 4) stack) (new ++ drop (at - 4 + length new) stack) (at - 4) (length-take-le (at - 4) stack (omega (arith, l)))
+            ∙ ap (λ (n : ℕ). new ++ drop n stack) behind
+
+-- the text ends
+pub place-end : (text stack : List ℕ) (at i : ℕ) → i ≡ length text → placeAt text stack at i ≡ endPlace (allOptional (wants (drop at stack))) i
+place-end text stack at i e = rw (e, drop-length)
+
+-- ---- new wants as bytes
+
+pub new-taken : (new : List ℕ) → (getD new 0 0 ≡ 7 → ⊥) → newWants new ≡ some (wants new)
+new-taken new h = rw (ne-eqb (getD new 0 0) 7 h)
+
+pub new-refused : (new : List ℕ) → getD new 0 0 ≡ 7 → newWants new ≡ none
+new-refused new h = rw (eq-eqb (getD new 0 0) 7 h)

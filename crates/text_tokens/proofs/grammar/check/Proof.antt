@@ -1,125 +1,137 @@
+-- `text_tokens::grammar::check` meets its contract: what the rest of the text is for what is wanted stays the same.
+-- Assumes nothing.
+use borrow.Author.Needs.{needs}
+use mathlib.Core.Path.{_≡_, refl, sym, ap, _∙_}
+use Prim.Native.Nat.{ℕ, _+_, _*_, _-_, _≤_}
+use native.Mathlib.Omega.{arith}
+use lib.ListN.{length, length-replicate, length-set}
+use borrow.Author.Tests.{not-true, not-false}
+use Rattle.wire.specs.Blocks.{length-from}
+use Rattle.typed_text.specs.Machine.{placeOf, endPlace}
+use Rattle.text_tokens.specs.Taking.{placeAt, place-empty, place-stuck, place-passed, place-taken, place-end, new-taken, new-refused}
 use Rattle.text_tokens.proofs.grammar.check.Statement.{statement}
 use Rattle.text_tokens.proofs.grammar.check.Tie as tie
-use Rattle.text_tokens.proofs.grammar.check.Reads as reads
-use Rattle.text_tokens.proofs.grammar.check.Lts as lts
-use Rattle.text_tokens.proofs.grammar.behind.Reads as behind-reads
-use Rattle.text_tokens.proofs.grammar.may_end.Reads as may-end-reads
-use Rattle.text_tokens.proofs.grammar.may_pass.Reads as may-pass-reads
-use Rattle.wire.proofs.copy_at.Reads as copy-at-reads
 
 abbrev Inv-loop : tie.InvT-loop
-Inv-loop text stack₀ at₀ i₀ stack at i = ?
+Inv-loop text stack₀ at₀ i₀ stack at i = (i ≤ length text) × (length stack ≡ 4097) × (at ≤ 4097) × (4096 ≤ at + 4 * i) × (placeAt text stack at i ≡ placeOf text)
 
 abbrev μ-loop : tie.MeasureT-loop
-μ-loop text stack₀ at₀ i₀ stack at i = ?
+μ-loop text stack₀ at₀ i₀ stack at i = 5 * (length text - i) + (4097 - at)
 
--- src/grammar.rt:145:18
 sub-at : tie.Need-sub-at Inv-loop μ-loop
-sub-at c = ?
+sub-at c = search needs
 
--- src/grammar.rt:146:5
 array-write-stack : tie.Need-array-write-stack Inv-loop μ-loop
-array-write-stack c = ?
+array-write-stack c = search needs
 
--- src/grammar.rt:148:5
 loop-holds : tie.Need-loop-holds Inv-loop μ-loop
-loop-holds c = ?
+loop-holds c = (search needs, search needs, search needs, search needs, refl)
 
--- src/grammar.rt:150:35
 cast-t11 : tie.Need-cast-t11 Inv-loop μ-loop
-cast-t11 c = ?
+cast-t11 c = search needs
 
--- src/grammar.rt:150:13
 returns : tie.Need-returns Inv-loop μ-loop
-returns c = ?
+returns c = let l = c .before .before in
+    let a = l .before .before .args in
+    sym (place-empty (a .text .now) (l .loop .stack) (l .loop .at) (l .loop .i) (omega arith) (omega arith)) ∙ l .loop .inv .4
 
--- src/grammar.rt:152:20
 array-read-want : tie.Need-array-read-want Inv-loop μ-loop
-array-read-want c = ?
+array-read-want c = search needs
 
--- src/grammar.rt:153:32
 shared-slice-read-behind : tie.Need-shared-slice-read-behind Inv-loop μ-loop
-shared-slice-read-behind c = ?
+shared-slice-read-behind c = search needs
 
--- src/grammar.rt:153:19
 behind-requires : tie.Need-behind-requires Inv-loop μ-loop
-behind-requires c κs = ?
+behind-requires c κs = search needs
 
--- src/grammar.rt:154:12
 array-read-if2 : tie.Need-array-read-if2 Inv-loop μ-loop
-array-read-if2 c = ?
+array-read-if2 c = search needs
 
--- src/grammar.rt:155:13
 sub-at-2 : tie.Need-sub-at-2 Inv-loop μ-loop
-sub-at-2 c = ?
+sub-at-2 c = search needs
 
--- src/grammar.rt:156:27
 slice-aggregate-copy-at : tie.Need-slice-aggregate-copy-at Inv-loop μ-loop
-slice-aggregate-copy-at c = ?
+slice-aggregate-copy-at c = search needs
 
--- src/grammar.rt:156:43
 slice-aggregate-copy-at-2 : tie.Need-slice-aggregate-copy-at-2 Inv-loop μ-loop
-slice-aggregate-copy-at-2 c = ?
+slice-aggregate-copy-at-2 c = search needs
 
--- src/grammar.rt:156:13
 copy-at-requires : tie.Need-copy-at-requires Inv-loop μ-loop
-copy-at-requires c κs = ?
+copy-at-requires c κs = search needs
 
--- src/grammar.rt:157:13
 add-i : tie.Need-add-i Inv-loop μ-loop
-add-i c = ?
+add-i c = search needs
 
--- src/grammar.rt:148:5
 loop-less : tie.Need-loop-less Inv-loop μ-loop
-loop-less c = ?
+loop-less c = search needs
 
--- src/grammar.rt:148:5
 loop-again : tie.Need-loop-again Inv-loop μ-loop
-loop-again c = ?
+loop-again c = let b = c .before .before .before .before .before in
+    let l = b .before .before .before .before in
+    let a = l .before .before .args in (
+      search needs,
+      rw (c .before .copy-at .ensures, length-from) (l .loop .inv .1),
+      search needs,
+      search needs,
+      rw (c .before .copy-at .ensures)
+      (sym (place-taken (a .text .now) (l .loop .stack) (l .loop .at) (l .loop .i) (omega arith) (omega arith) (b .behind .result) (search needs) (omega arith)
+      (sym (b .behind .ensures) ∙ new-taken (b .behind .result) (c .before .before .before .before .if2 .taken)))
+      ∙ l .loop .inv .4),
+    )
 
--- src/grammar.rt:159:17
 may-pass-requires : tie.Need-may-pass-requires Inv-loop μ-loop
-may-pass-requires c κs = ?
+may-pass-requires c κs = search needs
 
--- src/grammar.rt:160:39
 cast-t26 : tie.Need-cast-t26 Inv-loop μ-loop
-cast-t26 c = ?
+cast-t26 c = search needs
 
--- src/grammar.rt:160:17
 returns-2 : tie.Need-returns-2 Inv-loop μ-loop
-returns-2 c = ?
+returns-2 c = let b = c .before .before .before in
+    let l = b .before .before .before .before in
+    let a = l .before .before .args in
+    sym (place-stuck (a .text .now) (l .loop .stack) (l .loop .at) (l .loop .i) (omega arith) (omega arith)
+    (sym (b .behind .ensures) ∙ new-refused (b .behind .result) (c .before .before .if2 .left)) (sym (c .before .may-pass .ensures) ∙ not-true _ (c .if3 .taken)))
+    ∙ l .loop .inv .4
 
--- src/grammar.rt:162:13
 add-at : tie.Need-add-at Inv-loop μ-loop
-add-at c = ?
+add-at c = search needs
 
--- src/grammar.rt:148:5
 loop-less-2 : tie.Need-loop-less-2 Inv-loop μ-loop
-loop-less-2 c = ?
+loop-less-2 c = search needs
 
--- src/grammar.rt:148:5
 loop-again-2 : tie.Need-loop-again-2 Inv-loop μ-loop
-loop-again-2 c = ?
+loop-again-2 c = let b = c .before .before .before in
+    let l = b .before .before .before .before in
+    let a = l .before .before .args in (
+      search needs,
+      search needs,
+      search needs,
+      search needs,
+      sym (place-passed (a .text .now) (l .loop .stack) (l .loop .at) (l .loop .i) (omega arith) (omega arith)
+      (sym (b .behind .ensures) ∙ new-refused (b .behind .result) (c .before .before .if2 .left)) (sym (c .before .may-pass .ensures) ∙ not-false _ (c .if3 .left)))
+      ∙ l .loop .inv .4,
+    )
 
--- src/grammar.rt:165:16
 slice-aggregate-may-end : tie.Need-slice-aggregate-may-end Inv-loop μ-loop
-slice-aggregate-may-end c = ?
+slice-aggregate-may-end c = search needs
 
--- src/grammar.rt:165:8
 may-end-requires : tie.Need-may-end-requires Inv-loop μ-loop
-may-end-requires c κs = ?
+may-end-requires c κs = search needs
 
--- src/grammar.rt:166:9
 returns-3 : tie.Need-returns-3 Inv-loop μ-loop
-returns-3 c = ?
+returns-3 c = let l = c .before .before .before .before in
+    let a = l .before .before .args in
+    sym (place-end (a .text .now) (l .loop .stack) (l .loop .at) (l .loop .i) (omega arith)
+    ∙ ap (λ t. endPlace t (l .loop .i)) (sym (c .before .may-end .ensures) ∙ c .if4 .taken)) ∙ l .loop .inv .4
 
--- src/grammar.rt:168:20
 cast-t30 : tie.Need-cast-t30 Inv-loop μ-loop
-cast-t30 c = ?
+cast-t30 c = search needs
 
--- src/grammar.rt:140:1
 returns-4 : tie.Need-returns-4 Inv-loop μ-loop
-returns-4 c = ?
+returns-4 c = let l = c .before .before .before .before in
+    let a = l .before .before .args in
+    sym (place-end (a .text .now) (l .loop .stack) (l .loop .at) (l .loop .i) (omega arith)
+    ∙ ap (λ t. endPlace t (l .loop .i)) (sym (c .before .may-end .ensures) ∙ c .if4 .left)) ∙ l .loop .inv .4
 
 pub check-spec : {M : Type 1} → statement M
 check-spec =

@@ -2,9 +2,9 @@
 -- Assumes nothing.
 use borrow.Author.Needs.{needs}
 use mathlib.Core.Path.{_≡_, refl, sym, ap, _∙_}
-use Prim.Native.Nat.{ℕ, _≤_, _-_}
+use Prim.Native.Nat.{ℕ, _+_, _*_, _≤_, _-_}
 use native.Mathlib.Omega.{arith}
-use lib.ListN.{length, drop}
+use lib.ListN.{length, getD, drop}
 use borrow.Author.Tests.{not-true, not-false}
 use Rattle.text_tokens.specs.Digits.{capped-low, goingOn, digit-more, digit-none, digits-end}
 use Rattle.text_tokens.specs.Reading.{digitsAt}
@@ -43,7 +43,7 @@ loop-less c = search needs
 loop-again : tie.Need-loop-again Inv-loop μ-loop
 loop-again c = let l = c .before .before .before .before .before in
     let xs = l .before .before .args .text .now in
-    (search needs, rw (c .grown .ensures) (capped-low _),
+    (search needs, rw (c .grown .ensures) (capped-low (l .loop .value * 10 + (getD xs (l .loop .at) 0 - 48))),
       rw (c .grown .ensures)
       (sym (digit-more xs (l .loop .value) (l .loop .at) (l .loop .inv .1) (omega arith) (sym (c .before .before .is-digit .ensures) ∙ not-false _ (c .before .if1 .left))) ∙ l .loop .inv .2))
 

@@ -1,42 +1,38 @@
+-- `text_tokens::token::token_at` meets its contract: each branch's test says which case holds.
+-- Assumes nothing.
 use borrow.Author.Needs.{needs}
+use mathlib.Core.Path.{sym, _∙_}
+use native.Mathlib.Omega.{arith}
+use borrow.Author.Tests.{not-true, not-false}
+use Rattle.text_tokens.specs.Digits.{token-end, token-alone, token-number}
 use Rattle.text_tokens.proofs.token.token_at.Statement.{statement}
 use Rattle.text_tokens.proofs.token.token_at.Tie as tie
-use Rattle.text_tokens.proofs.token.token_at.Reads as reads
-use Rattle.text_tokens.proofs.token.token_at.Lts as lts
-use Rattle.text_tokens.proofs.token.number_at.Reads as number-at-reads
-use Rattle.text_tokens.proofs.token.takes_number.Reads as takes-number-reads
 
--- src/token.rt:105:9
 returns : tie.Need-returns
-returns c = ?
+returns c = let a = c .before .before .args in token-end (a .text .now) (a .at) (c .if1 .taken)
 
--- src/token.rt:107:18
 shared-slice-read-letter : tie.Need-shared-slice-read-letter
 shared-slice-read-letter c = search needs
 
--- src/token.rt:108:9
 takes-number-requires : tie.Need-takes-number-requires
 takes-number-requires c κs = search needs
 
--- src/token.rt:112:20
 add-t10 : tie.Need-add-t10
 add-t10 c = search needs
 
--- src/token.rt:109:9
 returns-2 : tie.Need-returns-2
-returns-2 c = ?
+returns-2 c = let a = c .before .before .before .before .before .args in
+    token-alone (a .text .now) (a .at) (omega arith) (sym (c .before .takes-number .ensures) ∙ not-true _ (c .if2 .taken))
 
--- src/token.rt:115:34
 add-number-at : tie.Need-add-number-at
 add-number-at c = search needs
 
--- src/token.rt:115:9
 number-at-requires : tie.Need-number-at-requires
 number-at-requires c κs = search needs
 
--- src/token.rt:101:1
 returns-3 : tie.Need-returns-3
-returns-3 c = ?
+returns-3 c = let a = c .before .before .before .before .before .before .args in
+    token-number (a .text .now) (a .at) (omega arith) (sym (c .before .before .takes-number .ensures) ∙ not-false _ (c .before .if2 .left)) (c .number-at .result) (c .number-at .ensures)
 
 pub token-at-spec : {M : Type 1} → statement M
 token-at-spec =
