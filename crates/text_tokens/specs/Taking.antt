@@ -100,7 +100,7 @@ module _ (text stack : List ℕ) (at i : ℕ) (inside : i < length text) where
   module _ (l : at < length stack) where
     top : placeAt text stack at i
         ≡ nextPlace (putOn (taken (getD stack at 0) (getD text i 0)) (wants (drop (suc at) stack))
-          (pick (passable (getD stack at 0)) (next (wants (drop (suc at) stack)) (getD text i 0)) none)) i (λ ws. placeFrom (drop (suc i) text) ws (i + 1))
+        (pick (passable (getD stack at 0)) (next (wants (drop (suc at) stack)) (getD text i 0)) none)) i (λ ws. placeFrom (drop (suc i) text) ws (i + 1))
     top = rw (drop-cons stack at 0 l, drop-cons text i 0 inside, next-top)
 
     pub place-stuck : taken (getD stack at 0) (getD text i 0) ≡ none → passable (getD stack at 0) ≡ false → placeAt text stack at i ≡ fault i

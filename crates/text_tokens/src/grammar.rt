@@ -18,11 +18,17 @@ pub enum Grammar {
 
 // What a byte of the stack wants; any other wants itself.
 const NOTHING: u8 = 0;
+
 const NODE: u8 = 1;
+
 const ROW: u8 = 2;
+
 const NUMBER: u8 = 3;
+
 const DIGITS: u8 = 4;
+
 const AND_OR: u8 = 5;
+
 const SAME_DIFFER: u8 = 6;
 // Stands first where a byte can't be taken.
 const REFUSED: u8 = 7;

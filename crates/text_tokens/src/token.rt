@@ -86,7 +86,10 @@ fn number_at(text: &[u8], at: usize) -> Number
     ensures { λ r. ⌜ r ≡ numberAt (now (text .entry)) at ⌝ }
 {
     if at == text.len() {
-        return Number { value: 0, after: at };
+        return Number {
+            value: 0,
+            after: at,
+        };
     }
     if text[at] == b'0' {
         return Number {

@@ -101,7 +101,7 @@ placeOf xs = placeFrom xs (node ∷ []) 0
 
 -- ---- laws
 
-and-is-true : (a b : Bool) → a && b ≡ true → (a ≡ true) × (b ≡ true)
+pub and-is-true : (a b : Bool) → a && b ≡ true → (a ≡ true) × (b ≡ true)
 and-is-true true b h = (refl, h)
 and-is-true false b h = absurd (false≢true h)
 

@@ -64,9 +64,9 @@ module _ (b : ℕ) (xs : List ℕ) (ws vs : List Want) (later : Reads vs xs) whe
       (NodeText.after k t, (us, (begun 60 e (e1 ∙ ap (λ (l : List ℕ). spellNumber k ++ l) (e2 ∙ ap (λ (l : List ℕ). 62 ∷ l) e3)), R)))
 
   compare-read : Reads (row ∷ oneOf 61 35 ∷ number ∷ row ∷ byte 93 ∷ ws) xs → eqb b 91 ≡ true → Reads (node ∷ ws) (b ∷ xs)
-  compare-read (r, (ys, (e1, (zs, (inl e2, (k, (us, (e3, (q, (qs, (e4, (os, (e5, R)))))))))))) ) e =
+  compare-read (r, (ys, (e1, (zs, (inl e2, (k, (us, (e3, (q, (qs, (e4, (os, (e5, R))))))))))))) e =
       (NodeText.same r k q, (os, (begun 91 e (e1 ∙ ap (text.row r) (e2 ∙ ap (λ (l : List ℕ). 61 ∷ l) (e3 ∙ ap (λ (l : List ℕ). spellNumber k ++ l) (e4 ∙ ap (text.row q) e5)))), R)))
-  compare-read (r, (ys, (e1, (zs, (inr e2, (k, (us, (e3, (q, (qs, (e4, (os, (e5, R)))))))))))) ) e =
+  compare-read (r, (ys, (e1, (zs, (inr e2, (k, (us, (e3, (q, (qs, (e4, (os, (e5, R))))))))))))) e =
       (NodeText.differ r k q, (os, (begun 91 e (e1 ∙ ap (text.row r) (e2 ∙ ap (λ (l : List ℕ). 35 ∷ l) (e3 ∙ ap (λ (l : List ℕ). spellNumber k ++ l) (e4 ∙ ap (text.row q) e5)))), R)))
 
   node-read : putOn (nodeTakes b) ws none ≡ some vs → Reads (node ∷ ws) (b ∷ xs)

@@ -74,9 +74,9 @@ loop-again c = let b = c .before .before .before .before .before in
       search needs,
       search needs,
       rw (c .before .copy-at .ensures)
-      (sym (place-taken (a .text .now) (l .loop .stack) (l .loop .at) (l .loop .i) (omega arith) (omega arith) (b .behind .result) (search needs) (omega arith)
-      (sym (b .behind .ensures) ∙ new-taken (b .behind .result) (c .before .before .before .before .if2 .taken)))
-      ∙ l .loop .inv .4),
+          (sym (place-taken (a .text .now) (l .loop .stack) (l .loop .at) (l .loop .i) (omega arith) (omega arith) (b .behind .result) (search needs) (omega arith)
+          (sym (b .behind .ensures) ∙ new-taken (b .behind .result) (c .before .before .before .before .if2 .taken)))
+          ∙ l .loop .inv .4),
     )
 
 may-pass-requires : tie.Need-may-pass-requires Inv-loop μ-loop
@@ -108,8 +108,8 @@ loop-again-2 c = let b = c .before .before .before in
       search needs,
       search needs,
       sym (place-passed (a .text .now) (l .loop .stack) (l .loop .at) (l .loop .i) (omega arith) (omega arith)
-      (sym (b .behind .ensures) ∙ new-refused (b .behind .result) (c .before .before .if2 .left)) (sym (c .before .may-pass .ensures) ∙ not-false _ (c .if3 .left)))
-      ∙ l .loop .inv .4,
+          (sym (b .behind .ensures) ∙ new-refused (b .behind .result) (c .before .before .if2 .left)) (sym (c .before .may-pass .ensures) ∙ not-false _ (c .if3 .left)))
+          ∙ l .loop .inv .4,
     )
 
 slice-aggregate-may-end : tie.Need-slice-aggregate-may-end Inv-loop μ-loop

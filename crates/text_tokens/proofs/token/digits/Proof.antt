@@ -42,10 +42,12 @@ loop-less c = search needs
 
 loop-again : tie.Need-loop-again Inv-loop μ-loop
 loop-again c = let l = c .before .before .before .before .before in
-    let xs = l .before .before .args .text .now in
-    (search needs, rw (c .grown .ensures) (capped-low (l .loop .value * 10 + (getD xs (l .loop .at) 0 - 48))),
+    let xs = l .before .before .args .text .now in (
+      search needs,
+      rw (c .grown .ensures) (capped-low (l .loop .value * 10 + (getD xs (l .loop .at) 0 - 48))),
       rw (c .grown .ensures)
-      (sym (digit-more xs (l .loop .value) (l .loop .at) (l .loop .inv .1) (omega arith) (sym (c .before .before .is-digit .ensures) ∙ not-false _ (c .before .if1 .left))) ∙ l .loop .inv .2))
+          (sym (digit-more xs (l .loop .value) (l .loop .at) (l .loop .inv .1) (omega arith) (sym (c .before .before .is-digit .ensures) ∙ not-false _ (c .before .if1 .left))) ∙ l .loop .inv .2),
+    )
 
 returns-2 : tie.Need-returns-2 Inv-loop μ-loop
 returns-2 c = let l = c .before in
