@@ -4,3 +4,4 @@ pub mod Ranged
 pub mod Digits
 pub mod Taking
 pub mod Letters
+pub mod SoFar

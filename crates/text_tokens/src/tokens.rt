@@ -58,6 +58,7 @@ fn beyond_after(beyond: u16, token: Token, at: usize) -> u16
 // Reads all tokens of a text.
 pub fn read_tokens(text: &[u8], tokens: &mut [u16; 1024]) -> Ranged
     requires { ⌜ length (now text) ≤ 1024 ⌝ }
+    requires { ⌜ length (now tokens) ≡ 1024 ⌝ }
     ensures answer { λ r. ⌜ rangedOf r ≡ unless (rangeCheck (byteTokens (now (text .entry)))) (length (byteTokens (now (text .entry)))) ⌝ }
     ensures words { λ r. ⌜ now (tokens .exit) ≡ onto (tokenWords (byteTokens (now (text .entry)))) (now (tokens .entry)) ⌝ }
 {

@@ -1,72 +1,94 @@
+-- `text_tokens::tokens::read_tokens` meets its contract: between two tokens those before are stored and held to their ranges.
+-- Assumes nothing.
+use borrow.Author.Needs.{needs}
+use mathlib.Core.Path.{sym, _∙_}
+use Prim.Native.Nat.{_-_}
+use native.Mathlib.Omega.{arith}
+use lib.ListN.{length}
+use Rattle.text_tokens.specs.SoFar.{SoFar, none-yet, token-is, end-is, one-more, all-words, all-within, some-beyond}
 use Rattle.text_tokens.proofs.tokens.read_tokens.Statement.{statement}
 use Rattle.text_tokens.proofs.tokens.read_tokens.Tie as tie
-use Rattle.text_tokens.proofs.tokens.read_tokens.Reads as reads
-use Rattle.text_tokens.proofs.tokens.read_tokens.Lts as lts
-use Rattle.text_tokens.proofs.reader.token_from.Reads as token-from-reads
-use Rattle.text_tokens.proofs.tokens.beyond_after.Reads as beyond-after-reads
-use Rattle.text_tokens.proofs.tokens.word.Reads as word-reads
 
 abbrev Inv-loop : tie.InvT-loop
-Inv-loop text tokens₀ at₀ n₀ beyond₀ tokens at n beyond = ?
+Inv-loop text tokens₀ at₀ n₀ beyond₀ tokens at n beyond = SoFar text tokens₀ tokens at n beyond
 
 abbrev μ-loop : tie.MeasureT-loop
-μ-loop text tokens₀ at₀ n₀ beyond₀ tokens at n beyond = ?
+μ-loop text tokens₀ at₀ n₀ beyond₀ tokens at n beyond = length text - at
 
--- src/tokens.rt:67:5
 loop-holds : tie.Need-loop-holds Inv-loop μ-loop
-loop-holds c = ?
+loop-holds c = let a = c .before .args in none-yet (a .text .now) (a .tokens .now)
 
--- src/tokens.rt:67:41
 token-from-requires : tie.Need-token-from-requires Inv-loop μ-loop
-token-from-requires c κs = ?
+token-from-requires c κs = search needs
 
--- src/tokens.rt:67:32
 enum-known-token : tie.Need-enum-known-token Inv-loop μ-loop
-enum-known-token c = ?
+enum-known-token c = search needs
 
--- src/tokens.rt:68:21
 word-requires : tie.Need-word-requires Inv-loop μ-loop
-word-requires c κs = ?
+word-requires c κs = search needs
 
--- src/tokens.rt:68:9
 mul-tokens : tie.Need-mul-tokens Inv-loop μ-loop
-mul-tokens c = ?
+mul-tokens c = let k = c .before .before in
+    let l = k .before .before .before in
+    let xs = l .before .before .args .text .now in
+    let told = token-is xs (l .loop .at) (k .token .given .0 .0) (sym (k .before .before .token-from .ensures) ∙ k .token .given .1) in
+    omega (arith, told .0, l .loop .inv .fewer)
 
--- src/tokens.rt:68:9
 element-write-tokens : tie.Need-element-write-tokens Inv-loop μ-loop
-element-write-tokens c = ?
+element-write-tokens c = let k = c .before .before in
+    let l = k .before .before .before in
+    let xs = l .before .before .args .text .now in
+    let told = token-is xs (l .loop .at) (k .token .given .0 .0) (sym (k .before .before .token-from .ensures) ∙ k .token .given .1) in
+    omega (arith, told .0, l .loop .inv .fewer)
 
--- src/tokens.rt:69:9
 beyond-after-requires : tie.Need-beyond-after-requires Inv-loop μ-loop
-beyond-after-requires c κs = ?
+beyond-after-requires c κs = let k = c .before .before in
+    let l = k .before .before .before in
+    let xs = l .before .before .args .text .now in
+    let told = token-is xs (l .loop .at) (k .token .given .0 .0) (sym (k .before .before .token-from .ensures) ∙ k .token .given .1) in
+    omega (arith, told .0)
 
--- src/tokens.rt:70:9
 add-n : tie.Need-add-n Inv-loop μ-loop
-add-n c = ?
+add-n c = let k = c .before .before .before in
+    let l = k .before .before .before in
+    let xs = l .before .before .args .text .now in
+    let told = token-is xs (l .loop .at) (k .token .given .0 .0) (sym (k .before .before .token-from .ensures) ∙ k .token .given .1) in
+    omega (arith, told .0, l .loop .inv .fewer)
 
--- src/tokens.rt:67:5
 loop-less : tie.Need-loop-less Inv-loop μ-loop
-loop-less c = ?
+loop-less c = let k = c .before .before .before in
+    let l = k .before .before .before in
+    let xs = l .before .before .args .text .now in
+    let told = token-is xs (l .loop .at) (k .token .given .0 .0) (sym (k .before .before .token-from .ensures) ∙ k .token .given .1) in
+    rw (told .1) (omega (arith, told .0))
 
--- src/tokens.rt:67:5
 loop-again : tie.Need-loop-again Inv-loop μ-loop
-loop-again c = ?
+loop-again c = let k = c .before .before .before in
+    let l = k .before .before .before in
+    let xs = l .before .before .args .text .now in
+    let told = token-is xs (l .loop .at) (k .token .given .0 .0) (sym (k .before .before .token-from .ensures) ∙ k .token .given .1) in
+    one-more (l .loop .inv) (omega arith) (told .0) (k .token .given .0 .0) (told .1) (c .before .word .result) (c .beyond-after .result) (c .before .word .ensures)
+    (c .beyond-after .ensures)
 
--- src/tokens.rt:67:11
 enum-told : tie.Need-enum-told Inv-loop μ-loop
-enum-told c = ?
+enum-told c = search needs
 
--- src/tokens.rt:74:31
 cast-t13 : tie.Need-cast-t13 Inv-loop μ-loop
-cast-t13 c = ?
+cast-t13 c = let l = c .before .before .before .before in omega (arith, l .loop .inv .fewer, l .loop .inv .inside)
 
--- src/tokens.rt:74:9
 returns : tie.Need-returns Inv-loop μ-loop
-returns c = ?
+returns c = let e = c .before in
+    let l = e .before .before .before in
+    let xs = l .before .before .args .text .now in
+    let end = end-is xs (l .loop .at) (sym (e .before .before .token-from .ensures) ∙ e .enum-told .given .1) in
+    (all-within (l .loop .inv) end (c .if1 .taken), all-words (l .loop .inv) end)
 
--- src/tokens.rt:59:1
 returns-2 : tie.Need-returns-2 Inv-loop μ-loop
-returns-2 c = ?
+returns-2 c = let e = c .before in
+    let l = e .before .before .before in
+    let xs = l .before .before .args .text .now in
+    let end = end-is xs (l .loop .at) (sym (e .before .before .token-from .ensures) ∙ e .enum-told .given .1) in
+    (some-beyond (l .loop .inv) end (c .if1 .left), all-words (l .loop .inv) end)
 
 pub read-tokens-spec : {M : Type 1} → statement M
 read-tokens-spec =
