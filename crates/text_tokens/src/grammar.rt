@@ -81,7 +81,7 @@ fn behind_number(byte: u8) -> [u8; 5]
     ensures { λ r. ⌜ newWants r ≡ takes number byte ⌝ }
 {
     if byte == b'0' {
-        return [0, 0, 0, 0, 0];
+        return [0, 0, 0, 0, NOTHING];
     }
     behind_digit(b'1', byte)
 }
