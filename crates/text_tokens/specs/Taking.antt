@@ -13,7 +13,7 @@ use borrow.Author.Tests.{eq-eqb, ne-eqb}
 use Rattle.wire.specs.Choice.{pick}
 use Rattle.wire.specs.Blocks.{putFrom}
 use Rattle.wire.specs.Onto.{put-at}
-use Rattle.typed_text.specs.Machine.{Want, oneOf, Next, none, some, nodeTakes, rowTakes, takes, putOn, next, allOptional, Place, fault, endPlace, nextPlace, placeFrom}
+use Rattle.typed_text.specs.Machine.{Want, oneOf, none, some, nodeTakes, rowTakes, takes, putOn, next, allOptional, Place, fault, endPlace, nextPlace, placeFrom}
 use Rattle.text_tokens.specs.Stack.{wantOf, wants, newWants, taken, passable}
 
 -- ---- what a byte is not

@@ -14,7 +14,7 @@ use Rattle.wire.specs.Choice.{pick}
 use Rattle.typed_text.specs.Text.{isDigit, beginsNumber, allDigits, Numeral, nought, from, spellNumber, NodeText, RowText, IsText}
 use Rattle.typed_text.specs.Text as text
 use Rattle.typed_text.specs.Fault.{Begins, FaultAt, Parsed}
-use Rattle.typed_text.specs.Machine.{Want, node, row, number, digits, byte, oneOf, Next, none, some, nodeTakes, rowTakes, takes, optional, putOn, next, allOptional, Place, whole, fault, endPlace, nextPlace, placeFrom, placeOf, acceptsFrom, accepts, text-accepted}
+use Rattle.typed_text.specs.Machine.{Want, node, row, number, digits, byte, oneOf, Next, none, some, nodeTakes, rowTakes, putOn, next, allOptional, Place, whole, fault, endPlace, nextPlace, placeFrom, placeOf, acceptsFrom, accepts, text-accepted}
 
 -- xs is spelled by what is wanted, in order
 abbrev pub Reads : List Want → List ℕ → Type 0

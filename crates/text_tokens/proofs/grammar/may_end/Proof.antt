@@ -1,11 +1,10 @@
 -- `text_tokens::grammar::may_end` meets its contract: the wants passed may all be nothing.
 -- Assumes nothing.
 use borrow.Author.Needs.{needs}
-use mathlib.Core.Path.{_≡_, refl, sym, ap, _∙_}
-use Prim.Native.Nat.{ℕ, _≤_, _-_}
+use mathlib.Core.Path.{_≡_, refl, sym, _∙_}
+use Prim.Native.Nat.{_≤_, _-_}
 use native.Mathlib.Omega.{arith}
 use lib.ListN.{length, drop}
-use lib.Seq.{drop-length}
 use borrow.Author.Tests.{not-true, not-false}
 use Rattle.typed_text.specs.Machine.{allOptional}
 use Rattle.text_tokens.specs.Stack.{wants}

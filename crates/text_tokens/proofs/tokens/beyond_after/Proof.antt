@@ -1,7 +1,6 @@
 -- `text_tokens::tokens::beyond_after` meets its contract: each branch's test says which case holds.
 -- Assumes nothing.
 use borrow.Author.Needs.{needs}
-use native.Mathlib.Omega.{arith}
 use borrow.Author.Tests.{eq-eqb, ne-eqb, lt-ltb, le-ltb}
 use Rattle.text_tokens.proofs.tokens.beyond_after.Statement.{statement}
 use Rattle.text_tokens.proofs.tokens.beyond_after.Tie as tie
