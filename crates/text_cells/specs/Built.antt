@@ -123,7 +123,7 @@ module _ (b s : State) (four : Four s) (g : Grown b s) where
   unfolding madeBy
   brace-made f h r p q under ps qs top =
       subst (λ (items : List ℕ). RowBuilt b (taken 123 0 (on s items)) under (entry (tree 11 p q unused))) (sym top)
-      (row-cell (on s (rowItem f ∷ rowItem h ∷ r ∷ under)) four (path 3 11 (rowItem f / 2) (rowItem h / 2)) 11 refl p q unused (half-field s f p ps) (half-field s h q qs) (zero-field s) b
+      (row-cell (on s (rowItem f ∷ rowItem h ∷ r ∷ under)) four (path 3 11 (rowItem f / 2) (rowItem h / 2)) 11 refl (omega arith) p q unused (half-field s f p ps) (half-field s h q qs) (zero-field s) b
       (grown-on b s _ g (grown-none s _)) refl under refl)
 
 -- ---- a bar over a node, and over a row

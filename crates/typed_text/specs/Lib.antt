@@ -3,3 +3,6 @@ pub mod Text
 pub mod Fault
 pub mod Tokens
 pub mod Means
+pub mod Machine
+pub mod Viable
+pub mod Spelled

@@ -26,19 +26,19 @@ pub record Token : Type 0 where
   -- the place of the letter in the text
   pub place : ℕ
 
-abbrev sign : ℕ → ℕ → Token
+abbrev pub sign : ℕ → ℕ → Token
 sign c i = record { letter = c; value = 0; place = i }
 
-abbrev numbered : ℕ → Numeral → ℕ → Token
+abbrev pub numbered : ℕ → Numeral → ℕ → Token
 numbered c k i = record { letter = c; value = valueOf k; place = i }
 
-abbrev nodeSize : NodeText → ℕ
+abbrev pub nodeSize : NodeText → ℕ
 nodeSize t = length (node t [])
 
-abbrev rowSize : RowText → ℕ
+abbrev pub rowSize : RowText → ℕ
 rowSize r = length (row r [])
 
-abbrev numberSize : Numeral → ℕ
+abbrev pub numberSize : Numeral → ℕ
 numberSize nought = 1
 numberSize (from d ds p q) = 1 + length ds
 
