@@ -16,7 +16,7 @@ pub enum Grammar {
     Fault(u16),
 }
 
-// What a byte of the stack wants; any other wants itself.
+// What a byte of the stack wants: nothing, a text, a byte of two, or else the byte that it is.
 const NOTHING: u8 = 0;
 
 const NODE: u8 = 1;
@@ -30,9 +30,11 @@ const DIGITS: u8 = 4;
 const AND_OR: u8 = 5;
 
 const SAME_DIFFER: u8 = 6;
+
 // Stands first where a byte can't be taken.
 const REFUSED: u8 = 7;
 
+// Room for the first want and, since a byte leaves at most four more than there were, for 1,024 bytes.
 const STACK: usize = 4097;
 
 // What is wanted behind the first byte of a node text.
