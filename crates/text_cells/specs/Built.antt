@@ -3,20 +3,21 @@
 use mathlib.Core.Path.{_≡_, refl, sym, ap, subst, _∙_}
 use mathlib.Core.Bool.{Bool, true, false}
 use mathlib.Core.List.{List, [], _∷_, _++_}
-use Prim.Native.Nat.{ℕ, suc, _+_, _*_, _/_, _%_, _≤_, _<_}
+use Prim.Native.Nat.{ℕ, suc, _+_, _-_, _*_, _/_, _%_, _≤_, _<_}
 use native.Mathlib.Omega.{arith}
-use borrow.Author.Tests.{eq-eqb, ne-eqb}
+use borrow.Author.Tests.{eq-eqb, ne-eqb, lt-ltb}
 use lib.Dec.{eqb}
 use lib.ListN.{length, getD, drop}
 use Rattle.wire.specs.Choice.{pick}
 use Rattle.pattern.specs.Checks.Finding.{passes}
 use Rattle.typed_text.specs.Text.{NodeText, RowText}
-use Rattle.typed_text.specs.Tokens.{Token, nodeTokens, rowTokens, tokensOf, rangeCheck, valueOf}
+use Rattle.typed_text.specs.Tokens.{Token, nodeTokens, rowTokens, tokensOf, limitOf, rangeCheck, valueOf}
+use Rattle.typed_text.specs.Spelled.{capped, tokenWord, tokenWords}
 use Rattle.typed_file.specs.Trees.{Tree, tree, Part, number, entry, unused, nodeTree, rowTree}
 use Rattle.typed_file.specs.Formed.{InRange, in-range}
 use Rattle.text_cells.specs.declared.letters.Made.{Made}
 use Rattle.text_cells.specs.declared.letters.Marks.{Marks}
-use Rattle.text_cells.specs.Building.{madeBy, marksBy, barMark, State, withCell, withMarks, cellOr, taken, start, node, path}
+use Rattle.text_cells.specs.Building.{madeBy, marksBy, barMark, State, withCell, withMarks, cellOr, taken, takenWord, builtFrom, builtOf, start, node, path}
 use Rattle.text_cells.specs.Cells.{CellIs, FieldIs, run, Four, run-four, Grown, grown-none, grown-on, cell-grown, field-grown, nodeItem, rowItem, NodeBuilt, RowBuilt, node-cell, row-cell}
 
 -- ---- laws
@@ -270,6 +271,54 @@ mutual
       (λ f under rest top is.
           brace-built (run ys) _ _ _ (λ x. rowTree p x) (λ x. rowTree q x) (rowTree r rest) under (c .0 f under rest top is) (b .0) (a .0), c .1)
 
+-- ---- tokens as numbers
+limit-either : (t : Bool) (a b : ℕ) → a ≤ 127 → b ≤ 127 → pick t a b ≤ 127
+limit-either true a b p q = p
+limit-either false a b p q = q
+
+limit-small : (c : ℕ) → limitOf c ≤ 127
+limit-small c =
+    limit-either (eqb c 112) _ _ (omega arith)
+    (limit-either (eqb c 110) _ _ (omega arith)
+    (limit-either (eqb c 64) _ _ (omega arith)
+    (limit-either (eqb c 60) _ _ (omega arith)
+    (limit-either (eqb c 47) _ _ (omega arith)
+    (limit-either (eqb c 61) _ _ (omega arith)
+    (limit-either (eqb c 35) _ _ (omega arith) (omega arith)))))))
+
+-- a number in its range is told with its letter
+word-taken : (t : Token) (s : State) → t .value ≤ limitOf (t .letter) → takenWord (tokenWord t) s ≡ taken (t .letter) (t .value) s
+unfolding takenWord
+word-taken t s h =
+    let small : t .value < 255 = omega (arith, h, limit-small (t .letter)) in
+    let told : capped (t .value) ≡ t .value = rw (lt-ltb (t .value) 255 small) in
+    rw (told, letter small, value small)
+  where
+    letter : t .value < 255 → (t .letter * 256 + t .value) / 256 ≡ t .letter
+    letter small = omega (arith, small)
+
+    value : t .value < 255 → (t .letter * 256 + t .value) % 256 ≡ t .value
+    value small = omega (arith, small)
+
+words-run : (ts : List Token) → InRange ts → builtOf (tokenWords ts) ≡ run ts
+unfolding builtOf builtFrom
+words-run [] h = refl
+words-run (t ∷ ts) h = ap (takenWord (tokenWord t)) (words-run ts (h .1)) ∙ word-taken t (run ts) (h .0)
+
 -- the tokens of a text whose numbers are in range make its tree, whose cell is the last
-pub text-built : (t : NodeText) → rangeCheck (tokensOf t) ≡ passes → NodeBuilt start (run (tokensOf t)) (nodeTree t)
-text-built t h = node-built t 0 [] (in-range (tokensOf t) h) .0
+pub record TextCells (s : State) (t : NodeText) : Type 0 where
+  pub some-cell : 1 ≤ s .count
+  pub root : CellIs (s .cells) (s .count - 1) (nodeTree t)
+  pub four-each : length (s .cells) ≡ 4 * s .count
+
+pub text-built : (t : NodeText) → rangeCheck (tokensOf t) ≡ passes → TextCells (builtOf (tokenWords (tokensOf t))) t
+text-built t h =
+    let ranged = in-range (tokensOf t) h in
+    let n = node-built t 0 [] ranged .0 in
+    let cell : n .cell ≡ run (tokensOf t) .count - 1 = omega (arith, n .last) in
+    subst (λ (s : State). TextCells s t) (sym (words-run (tokensOf t) ranged))
+    (record {
+      some-cell = omega (arith, n .last);
+      root = subst (λ (c : ℕ). CellIs (run (tokensOf t) .cells) c (nodeTree t)) cell (n .is);
+      four-each = n .four;
+    })
