@@ -1,0 +1,2 @@
+-- Completing cells.
+-- Assumes nothing.
