@@ -172,3 +172,20 @@ module _ (s : State) (four : Four s) (m : Made) (k : ℕ) (kind : m .kind ≡ k)
         ∙ ap (λ (n : ℕ). n ∷ drop (m .takes) (s .items)) (add-zero (2 * (256 + s .count))) ∙ ap (λ (l : List ℕ). rowItem (256 + s .count) ∷ l) e;
     is = (s .count, (refl, omega arith, new-cell));
   }
+
+-- a cell is one tree
+mutual
+  pub cell-once : (t u : Tree) (cells : List ℕ) (c : ℕ) → CellIs cells c t → CellIs cells c u → t ≡ u
+  cell-once (tree k x y z) (tree l a b d) cells c h g =
+      let xs = field-once x a cells c _ (h .2) (g .2) in
+      let ys = field-once y b cells c _ (h .3) (g .3) in
+      let zs = field-once z d cells c _ (h .4) (g .4) in
+      λ i. tree ((sym (h .1 .0) ∙ g .1 .0) i) (xs i) (ys i) (zs i)
+
+  field-once : (p q : Part) (cells : List ℕ) (m f : ℕ) → FieldIs cells m f p → FieldIs cells m f q → p ≡ q
+  field-once (number v) (number w) cells m f h g = ap number (sym (h .0) ∙ g .0)
+  field-once (number v) (entry u) cells m f h g = absurd (omega (arith, h .1, g .1 .0))
+  field-once (entry t) (number w) cells m f h g = absurd (omega (arith, h .1 .0, g .1))
+  field-once (entry t) (entry u) cells m f h g =
+      let same : h .0 ≡ g .0 = omega (arith, h .1 .0, g .1 .0) in
+      ap entry (cell-once t u cells (g .0) (subst (λ (c : ℕ). CellIs cells c t) same (h .1 .2)) (g .1 .2))
