@@ -37,8 +37,7 @@ mutual
   pub cell-more : (t : Tree) (cells more : List ℕ) (c : ℕ) → CellIs cells c t → CellIs (cells ++ more) c t
   cell-more (tree k x y z) cells more c h =
       let at : (j : ℕ) → j < 4 → getD (cells ++ more) (4 * c + j) 0 ≡ getD cells (4 * c + j) 0
-      = λ j l. List·getD-append cells more 0 (4 * c + j) (omega (arith, h .0)) in
-      (
+      = λ j l. List·getD-append cells more 0 (4 * c + j) (omega (arith, h .0)) in (
         omega (arith, h .0, length-append cells more),
         (List·getD-append cells more 0 (4 * c) (omega (arith, h .0)) ∙ h .1 .0, h .1 .1),
         subst (λ (f : ℕ). FieldIs (cells ++ more) c f x) (sym (at 1 (omega arith))) (field-more x cells more c c _ (omega arith) (h .2)),
@@ -134,8 +133,7 @@ module _ (s : State) (four : Four s) (m : Made) (k : ℕ) (kind : m .kind ≡ k)
   new-cell : CellIs (s .cells ++ four-numbers) (s .count) (tree k x y z)
   new-cell =
       let lift : (f : ℕ) (p : Part) → FieldIs (s .cells) (s .count) f p → FieldIs (s .cells ++ four-numbers) (s .count) f p
-      = λ f p h. field-more p (s .cells) four-numbers (s .count) (s .count) f (omega arith) h in
-      (
+      = λ f p h. field-more p (s .cells) four-numbers (s .count) (s .count) f (omega arith) h in (
         omega (arith, four, length-append (s .cells) four-numbers),
         (ap (λ (n : ℕ). getD (s .cells ++ four-numbers) n 0) (sym (add-zero (4 * s .count))) ∙ number-at 0 ∙ kind, few),
         subst (λ (f : ℕ). FieldIs (s .cells ++ four-numbers) (s .count) f x) (sym (number-at 1)) (lift (m .x) x xs),

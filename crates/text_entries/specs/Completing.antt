@@ -17,6 +17,7 @@ use Rattle.typed_file.specs.Trees.{Tree, tree, Part, number, entry}
 use Rattle.typed_file.specs.Entries.{Entry, Found, at, nowhere, findFrom, placed, place, complete, entriesOf, entryBytes}
 use Rattle.typed_file.specs.Completion.{Stands, PartIs, Distinct, Grown, completes, complete-distinct, still, first-x, first-y, first-z, all-there}
 use Rattle.text_cells.specs.Cells.{CellIs, FieldIs, cell-once}
+use Rattle.text_entries.specs.declared.Entries.{Entries}
 use Rattle.text_entries.specs.declared.Fields.{Fields}
 use Rattle.text_entries.specs.Placing.{entryOf, entriesFrom, numberFound, storedIf, entries-held, entry-stored, among}
 
@@ -25,7 +26,7 @@ unfoldable pub numberOf : List ℕ → ℕ → ℕ
 numberOf numbers f = pick (ltb f 256) f (pick (eqb (getD numbers (f - 256) 0) 0) 256 (getD numbers (f - 256) 0 - 1))
 
 -- the fields of a cell in their order: the first that is open, or the numbers of all
-abbrev orOpen : ℕ → ℕ → Fields → Fields
+abbrev pub orOpen : ℕ → ℕ → Fields → Fields
 orOpen n f rest = pick (eqb n 256) (Fields.Open (f - 256)) rest
 
 unfoldable pub fieldsOf : List ℕ → List ℕ → ℕ → Fields
@@ -38,6 +39,10 @@ fieldsOf cells numbers c =
 -- how many entries there are then
 abbrev pub countAfter : ℕ → ℕ → ℕ
 countAfter n found = pick (eqb found n) (n + 1) n
+
+-- what is found of so many entries: how many they are, or that they are over 255
+abbrev pub countedAs : ℕ → Entries
+countedAs n = pick (ltb 255 n) Entries.TooMany (Entries.Complete n)
 
 -- ---- laws
 
@@ -133,7 +138,7 @@ fields-small cells (tree k x y z) c h = (field-small cells x c _ (h .2), field-s
 module _ (cells numbers : List ℕ) (es : List Entry) (small : (c : ℕ) → getD numbers c 0 ≤ 255)
     (numbered : (c : ℕ) (t : Tree) → CellIs cells c t → (getD numbers c 0 ≡ 0 → ⊥) → Stands es t (getD numbers c 0 - 1)) where
   -- a field that has a number
-  part-number : (p : Part) (m f : ℕ) → FieldIs cells m f p → (numberOf numbers f ≡ 256 → ⊥) → PartIs es p (numberOf numbers f)
+  pub part-number : (p : Part) (m f : ℕ) → FieldIs cells m f p → (numberOf numbers f ≡ 256 → ⊥) → PartIs es p (numberOf numbers f)
   unfolding numberOf
   part-number (number v) m f h g = rw (lt-ltb f 256 (h .1)) (h .0)
   part-number (entry t) m f (c, (e, l, is)) g = go (eqb (getD numbers (f - 256) 0) 0) refl
@@ -159,7 +164,7 @@ module _ (cells numbers : List ℕ) (es : List Entry) (small : (c : ℕ) → get
     pub before : f - 256 < m
     pub without : getD numbers (f - 256) 0 ≡ 0
 
-  part-open : (p : Part) (m f : ℕ) → FieldIs cells m f p → numberOf numbers f ≡ 256 → OpenPart p m f
+  pub part-open : (p : Part) (m f : ℕ) → FieldIs cells m f p → numberOf numbers f ≡ 256 → OpenPart p m f
   unfolding numberOf
   part-open (number v) m f h g =
       let own : f ≡ 256 = rw (lt-ltb f 256 (h .1)) at g in

@@ -106,7 +106,7 @@ entry-stored es e lent l =
     ∙ ap (λ (bs : List ℕ). onto bs lent) (sym (bytes-more es e))
 
 -- what is found is one of the entries
-abbrev Below : ℕ → Found → Type 0
+abbrev pub Below : ℕ → Found → Type 0
 Below n (at i) = i < n
 Below n nowhere = Unit {0}
 

@@ -7,10 +7,12 @@ use text_cells::CELLS;
 use text_cells::TOKENS;
 ghost use mathlib.Core.Path.{_≡_};
 ghost use Prim.Native.Nat.{_+_, _-_, _*_, _≤_, _<_};
-ghost use lib.ListN.{length, getD};
+ghost use lib.ListN.{length, getD, take};
+ghost use Rattle.wire.specs.Onto.{onto};
 ghost use Rattle.typed_file.specs.Trees.{Tree};
+ghost use Rattle.typed_file.specs.Entries.{entriesOf, entryBytes};
 ghost use Rattle.text_cells.specs.Cells.{CellIs};
-ghost use Rattle.text_entries.specs.Completing.{numberOf, fieldsOf, countAfter};
+ghost use Rattle.text_entries.specs.Completing.{numberOf, fieldsOf, countAfter, countedAs};
 
 // The most entries, and their bytes.
 pub const ENTRIES: u16 = 255;
@@ -21,6 +23,12 @@ pub const ENTRY_BYTES: usize = 4 * ENTRIES as usize;
 enum Fields {
     Open(u16),
     Numbered(u8, u8, u8),
+}
+
+// How many entries there are, or that they would be over 255.
+pub enum Entries {
+    Complete(u8),
+    TooMany,
 }
 
 // What is kept of a cell.
@@ -88,4 +96,39 @@ fn count_after(n: u16, number: u16) -> u16
         return n + 1;
     }
     n
+}
+
+// Completes the root's cell, the last of count: the entries, up to the 255th, stand at the front of the
+// lent bytes.
+pub fn complete(cells: &[u16; CELLS], count: u16, entries: &mut [u8; ENTRY_BYTES]) -> Entries
+    requires { ⌜ length (now entries) ≡ 1020 ⌝ }
+    requires { ⌜ (1 ≤ count) × (count ≤ 1024) ⌝ }
+    requires { ⌜ ((t : Tree) × CellIs (now cells) (count - 1) t) ⌝ }
+    ensures answer { λ r. ⌜ ((t : Tree) → CellIs (now (cells .entry)) (count - 1) t → r ≡ countedAs (length (entriesOf t))) ⌝ }
+    ensures bytes { λ r. ⌜ ((t : Tree) → CellIs (now (cells .entry)) (count - 1) t → now (entries .exit) ≡ onto (entryBytes (take 255 (entriesOf t))) (now (entries .entry))) ⌝ }
+{
+    let mut numbers = [0u8; TOKENS];
+    let mut stack = [0u16; TOKENS];
+    let mut at = TOKENS - 1;
+    stack[at] = count - 1;
+    let mut n: u16 = 0;
+    while at < TOKENS {
+        let cell = stack[at];
+        match fields_of(cells, &numbers, cell) {
+            Fields::Open(part) => {
+                at -= 1;
+                stack[at] = part;
+            }
+            Fields::Numbered(x, y, z) => {
+                let number = place(entries, n, kind_of(cells, cell), x, y, z);
+                if number == ENTRIES {
+                    return Entries::TooMany;
+                }
+                n = count_after(n, number);
+                numbers[cell as usize] = (number + 1) as u8;
+                at += 1;
+            }
+        }
+    }
+    Entries::Complete(n as u8)
 }

@@ -11,8 +11,7 @@ pub enum TypeRefusal {
 
 impl TypeRefusal {
     // The documents' number of the refusal.
-    pub fn number(self) -> u8
-    {
+    pub fn number(self) -> u8 {
         match self {
             TypeRefusal::Grammar(_) => 30,
             TypeRefusal::Range(_) => 31,
@@ -21,8 +20,7 @@ impl TypeRefusal {
     }
 
     // Its place in the text, or 0.
-    pub fn place(self) -> u16
-    {
+    pub fn place(self) -> u16 {
         match self {
             TypeRefusal::Grammar(place) => place,
             TypeRefusal::Range(place) => place,

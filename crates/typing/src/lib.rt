@@ -10,16 +10,15 @@ use text_entries::ENTRY_BYTES;
 use text_entries::Entries;
 use text_entries::complete;
 use text_tokens::grammar::Grammar;
-use text_tokens::tokens::Ranged;
 use text_tokens::grammar::check;
+use text_tokens::tokens::Ranged;
 use text_tokens::tokens::read_tokens;
 
 // The most bytes of a text.
 pub const TEXT_BYTES: usize = TOKENS;
 
 // Refusal 32 by the destination's length, or the file of n entries.
-fn write_file(entries: &[u8], n: u8, out: &mut [u8]) -> TypeFinding
-{
+fn write_file(entries: &[u8], n: u8, out: &mut [u8]) -> TypeFinding {
     let length = 6 + 4 * n as usize;
     if out.len() < length {
         return TypeFinding::Refused(TypeRefusal::Room);
@@ -31,8 +30,7 @@ fn write_file(entries: &[u8], n: u8, out: &mut [u8]) -> TypeFinding
 }
 
 // The file of the first n tokens, or refusal 32.
-fn write_tokens(tokens: &[u16; TOKENS], n: u16, out: &mut [u8]) -> TypeFinding
-{
+fn write_tokens(tokens: &[u16; TOKENS], n: u16, out: &mut [u8]) -> TypeFinding {
     let mut cells = [0u16; CELLS];
     let count = build(tokens, n, &mut cells);
     let mut entries = [0u8; ENTRY_BYTES];
@@ -43,8 +41,7 @@ fn write_tokens(tokens: &[u16; TOKENS], n: u16, out: &mut [u8]) -> TypeFinding
 }
 
 // The file of a text of the grammar, or refusals 31 and 32.
-fn write_text(text: &[u8], out: &mut [u8]) -> TypeFinding
-{
+fn write_text(text: &[u8], out: &mut [u8]) -> TypeFinding {
     let mut tokens = [0u16; TOKENS];
     match read_tokens(text, &mut tokens) {
         Ranged::Within(n) => write_tokens(&tokens, n, out),
@@ -54,8 +51,7 @@ fn write_text(text: &[u8], out: &mut [u8]) -> TypeFinding
 
 // Types a pattern: any bytes as text and as destination give the file's length, and the file stands at
 // the front of the destination; or the first refusal that applies, and the destination stays as it was.
-pub fn type_pattern(text: &[u8], out: &mut [u8]) -> TypeFinding
-{
+pub fn type_pattern(text: &[u8], out: &mut [u8]) -> TypeFinding {
     if TEXT_BYTES < text.len() {
         return TypeFinding::Refused(TypeRefusal::Grammar(0));
     }

@@ -42,10 +42,9 @@ sub-result c = search needs
 returns-3 : tie.Need-returns-3
 unfolding numberOf
 returns-3 c =
-    let kept = c .before .wide .ensures in
-    (
+    let kept = c .before .wide .ensures in (
       rw (le-ltb _ 256 (c .before .before .before .if1 .left), ne-eqb _ 0 (λ e. c .if2 .left (kept .0 ∙ e)))
-      (ap (λ (n : ℕ). n - 1) (kept .0)),
+          (ap (λ (n : ℕ). n - 1) (kept .0)),
       omega (arith, kept .1),
     )
 

@@ -49,11 +49,10 @@ loop-less c = search needs
 -- src/placed.rt:26:5
 loop-again : tie.Need-loop-again Inv-loop μ-loop
 loop-again c =
-    let l = c .before .before .before in
-    (
+    let l = c .before .before .before in (
       omega (arith, c .before .before .loop-test .taken),
       found-later (l .before .args .entries .now) _ (l .before .args .n) (l .loop .i) (c .before .before .loop-test .taken)
-      (sym (c .before .is-entry .ensures) ∙ c .if1 .left) ∙ l .loop .inv .1,
+          (sym (c .before .is-entry .ensures) ∙ c .if1 .left) ∙ l .loop .inv .1,
     )
 
 -- src/placed.rt:21:1

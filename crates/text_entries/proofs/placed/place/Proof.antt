@@ -35,11 +35,10 @@ returns c =
     let e = entryOf (a .kind) (a .x) (a .y) (a .z) in
     let f = findFrom (entriesFrom (a .n) 0 (a .entries .now)) e 0 in
     let four = a .kind ∷ a .x ∷ a .y ∷ a .z ∷ [] in
-    let number = c .before .before .before .before .before .find .ensures in
-    (
+    let number = c .before .before .before .before .before .find .ensures in (
       number,
       c .copy-at .ensures
-      ∙ stored-new f (a .n) four (a .entries .now) (among (a .entries .now) e (a .n)) (sym number ∙ c .before .before .before .before .if1 .taken) (c .before .before .before .if2 .taken),
+          ∙ stored-new f (a .n) four (a .entries .now) (among (a .entries .now) e (a .n)) (sym number ∙ c .before .before .before .before .if1 .taken) (c .before .before .before .if2 .taken),
     )
 
 -- src/placed.rt:37:1
