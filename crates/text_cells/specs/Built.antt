@@ -333,3 +333,18 @@ text-built t h =
       root = subst (λ (c : ℕ). CellIs (run (tokensOf t) .cells) c (nodeTree t)) cell (n .is);
       four-each = n .four;
     })
+
+-- a token makes one cell at most
+pub built-few : (ws : List ℕ) → builtOf ws .count ≤ length ws
+unfolding builtOf builtFrom takenWord start
+built-few [] = omega arith
+built-few (w ∷ ws) = go (eqb (madeBy (w / 256) (w % 256) (getD (s .items) 0 0) (getD (s .items) 1 0) (getD (s .items) 2 0) .kind) 0) (built-few ws)
+  where
+    s : State
+    s = builtFrom start ws
+
+    go : (t : Bool) → s .count ≤ length ws
+        → pick t (withMarks (marksBy (w / 256) (w % 256) (getD (s .items) 0 0) (getD (s .items) 1 0)) s)
+        (withCell (madeBy (w / 256) (w % 256) (getD (s .items) 0 0) (getD (s .items) 1 0) (getD (s .items) 2 0)) s) .count ≤ suc (length ws)
+    go true h = omega (arith, h)
+    go false h = omega (arith, h)

@@ -1,4 +1,6 @@
 // What typing a pattern finds.
+ghost use mathlib.Core.Path.{_≡_};
+ghost use Rattle.typing.specs.Typing.{refusalNumber, refusalPlace};
 
 // The refusals, document 02's 30 to 32: a text that is too long, or that leaves the grammar at a place;
 // a number out of range, at the place of its first digit; too many entries, or a destination that is

@@ -1,0 +1,3 @@
+-- In the order of reading.
+pub mod Typing
+pub mod Findings
