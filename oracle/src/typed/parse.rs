@@ -35,8 +35,8 @@ pub fn parse(text: &[u8]) -> Result<NodeText, Fault> {
     if text.len() > MAX_TEXT {
         return Err(Fault::Long);
     }
-    let mut reader = Reader { text, position: 0, out_of_range: None };
-    let node = reader.node()?;
+    let mut reader = Reader { text, position: 0, open: Vec::new(), out_of_range: None };
+    let node = reader.whole()?;
     if reader.position < text.len() {
         return Err(reader.stray(b""));
     }
@@ -46,70 +46,159 @@ pub fn parse(text: &[u8]) -> Result<NodeText, Fault> {
     }
 }
 
+/// What has been begun and isn't whole yet. A list of these stands in for functions that call each other, as texts
+/// can be nested a thousand deep.
+enum Open {
+    Not,
+    After(u8),
+    /// `(`, before its first node.
+    Pair,
+    /// `(`, its first node and the sign behind it.
+    HalfPair(NodeText, u8),
+    /// A row with the parts that it has, and what it is a row of, before the node of a test or inside a brace.
+    Row(RowText, RowOf),
+}
+
+/// What a row is a part of, with what stands before it there.
+enum RowOf {
+    CompareLeft,
+    CompareRight(Comparison, u8, RowText),
+    BraceLeft,
+    BraceRight(RowText),
+}
+
+/// What comes next.
+enum Next {
+    /// A node text begins.
+    Node,
+    /// A row goes on behind these parts, or ends.
+    Row(RowText, RowOf),
+    /// A node text is whole.
+    Whole(NodeText),
+}
+
+impl Next {
+    /// A row begins.
+    fn row(of: RowOf) -> Next {
+        Next::Row(RowText::new(), of)
+    }
+
+    /// A row has one part more.
+    fn longer(mut parts: RowText, part: PartText, of: RowOf) -> Next {
+        parts.push(part);
+        Next::Row(parts, of)
+    }
+}
+
+impl RowOf {
+    /// The bytes that may follow in such a row: those that begin a part, and those that end it.
+    fn wanted(&self) -> &'static [u8] {
+        match self {
+            RowOf::CompareLeft => b"/@?{=#",
+            RowOf::CompareRight(..) => b"/@?{]",
+            RowOf::BraceLeft => b"/@?{|",
+            RowOf::BraceRight(..) => b"/@?{}",
+        }
+    }
+}
+
 /// "The reader takes each token from the byte after the last one."
 struct Reader<'a> {
     text: &'a [u8],
     position: usize,
+    /// The innermost last.
+    open: Vec<Open>,
     /// The first digit of the first number out of range.
     out_of_range: Option<usize>,
 }
 
 impl Reader<'_> {
-    fn node(&mut self) -> Result<NodeText, Fault> {
-        Ok(match self.one_of(b"pn!(<[")? {
-            b'p' => NodeText::Property(self.number(MAX_PROPERTY)?),
-            b'n' => NodeText::Name(self.number(MAX_NAME)?),
-            b'!' => NodeText::Not(Box::new(self.node()?)),
-            b'(' => self.two_nodes()?,
-            b'<' => self.after()?,
-            _ => self.comparison()?,
-        })
-    }
-
-    /// Behind `(`.
-    fn two_nodes(&mut self) -> Result<NodeText, Fault> {
-        let left = Box::new(self.node()?);
-        let sign = self.one_of(b"&|")?;
-        let right = Box::new(self.node()?);
-        self.one_of(b")")?;
-        Ok(if sign == b'&' { NodeText::Both(left, right) } else { NodeText::Either(left, right) })
-    }
-
-    /// Behind `<`.
-    fn after(&mut self) -> Result<NodeText, Fault> {
-        let axis = self.number(MAX_AXIS)?;
-        self.one_of(b">")?;
-        Ok(NodeText::After(axis, Box::new(self.node()?)))
-    }
-
-    /// Behind `[`.
-    fn comparison(&mut self) -> Result<NodeText, Fault> {
-        let (left, sign) = self.row(b"/@?{=#")?;
-        let channel = self.number(MAX_CHANNEL)?;
-        let (right, _) = self.row(b"/@?{]")?;
-        let comparison = if sign == b'=' { Comparison::Same } else { Comparison::Differ };
-        Ok(NodeText::Compare(comparison, channel, left, right))
-    }
-
-    /// A row and the byte that ends it. Asked for are the bytes that begin a part, and those that end the row.
-    fn row(&mut self, wanted: &'static [u8]) -> Result<(RowText, u8), Fault> {
-        let mut row = RowText::new();
+    /// The node text that begins here, to its end.
+    fn whole(&mut self) -> Result<NodeText, Fault> {
+        let mut next = Next::Node;
         loop {
-            row.push(match self.one_of(wanted)? {
-                b'/' => PartText::Step(self.number(MAX_AXIS)?),
-                b'@' => PartText::Jump(self.number(MAX_NAME)?),
-                b'?' => PartText::Test(self.node()?),
-                b'{' => self.brace()?,
-                end => return Ok((row, end)),
-            });
+            next = match next {
+                Next::Node => self.node()?,
+                Next::Row(parts, of) => self.row(parts, of)?,
+                Next::Whole(node) => match self.open.pop() {
+                    Some(open) => self.inside(open, node)?,
+                    None => return Ok(node),
+                },
+            };
         }
     }
 
-    /// Behind `{`.
-    fn brace(&mut self) -> Result<PartText, Fault> {
-        let (left, _) = self.row(b"/@?{|")?;
-        let (right, _) = self.row(b"/@?{}")?;
-        Ok(PartText::Brace(left, right))
+    /// The first token of a node text.
+    fn node(&mut self) -> Result<Next, Fault> {
+        match self.one_of(b"pn!(<[")? {
+            b'p' => return Ok(Next::Whole(NodeText::Property(self.number(MAX_PROPERTY)?))),
+            b'n' => return Ok(Next::Whole(NodeText::Name(self.number(MAX_NAME)?))),
+            b'!' => self.open.push(Open::Not),
+            b'(' => self.open.push(Open::Pair),
+            b'<' => {
+                let axis = self.number(MAX_AXIS)?;
+                self.one_of(b">")?;
+                self.open.push(Open::After(axis));
+            }
+            _ => return Ok(Next::row(RowOf::CompareLeft)),
+        }
+        Ok(Next::Node)
+    }
+
+    /// Goes on behind a node that is whole, inside what was open around it.
+    fn inside(&mut self, open: Open, node: NodeText) -> Result<Next, Fault> {
+        Ok(match open {
+            Open::Not => Next::Whole(NodeText::Not(Box::new(node))),
+            Open::After(axis) => Next::Whole(NodeText::After(axis, Box::new(node))),
+            Open::Pair => {
+                let sign = self.one_of(b"&|")?;
+                self.open.push(Open::HalfPair(node, sign));
+                Next::Node
+            }
+            Open::HalfPair(left, sign) => {
+                self.one_of(b")")?;
+                let pair = if sign == b'&' { NodeText::Both } else { NodeText::Either };
+                Next::Whole(pair(Box::new(left), Box::new(node)))
+            }
+            Open::Row(parts, of) => Next::longer(parts, PartText::Test(node), of),
+        })
+    }
+
+    /// The next part of a row, or what follows it if it ends.
+    fn row(&mut self, parts: RowText, of: RowOf) -> Result<Next, Fault> {
+        let part = match self.one_of(of.wanted())? {
+            b'/' => PartText::Step(self.number(MAX_AXIS)?),
+            b'@' => PartText::Jump(self.number(MAX_NAME)?),
+            b'?' => {
+                self.open.push(Open::Row(parts, of));
+                return Ok(Next::Node);
+            }
+            b'{' => {
+                self.open.push(Open::Row(parts, of));
+                return Ok(Next::row(RowOf::BraceLeft));
+            }
+            end => return self.behind_row(parts, of, end),
+        };
+        Ok(Next::longer(parts, part, of))
+    }
+
+    /// Goes on behind a row that is whole, and the byte that ended it.
+    fn behind_row(&mut self, row: RowText, of: RowOf, end: u8) -> Result<Next, Fault> {
+        Ok(match of {
+            RowOf::CompareLeft => {
+                let comparison = if end == b'=' { Comparison::Same } else { Comparison::Differ };
+                let channel = self.number(MAX_CHANNEL)?;
+                Next::row(RowOf::CompareRight(comparison, channel, row))
+            }
+            RowOf::CompareRight(comparison, channel, left) => {
+                Next::Whole(NodeText::Compare(comparison, channel, left, row))
+            }
+            RowOf::BraceLeft => Next::row(RowOf::BraceRight(row)),
+            RowOf::BraceRight(left) => match self.open.pop() {
+                Some(Open::Row(parts, of)) => Next::longer(parts, PartText::Brace(left, row), of),
+                _ => unreachable!("a brace stands in a row"),
+            },
+        })
     }
 
     /// "Numbers have no leading zeros": `0`, or a digit 1 to 9 with all digits that follow. Of a number out of range
