@@ -3,8 +3,8 @@
 
 mod common;
 
-use common::texts;
-use oracle::model::{Model, Node, where_holds};
+use common::texts::{self, small_model};
+use oracle::model::{Model, where_holds};
 use oracle::pattern::{self, Comparison, Pattern};
 use oracle::random::Random;
 use oracle::typed::{NodeText, PartText, RowText, parse, spell, type_pattern};
@@ -75,22 +75,6 @@ fn composed(first: &Relation, second: &Relation) -> Relation {
         reached.fold(0, |all, ends| all | ends)
     };
     first.iter().map(|&ends| onward(ends)).collect()
-}
-
-/// A model of up to five nodes, with the properties, names and axes that texts have.
-fn small_model(random: &mut Random) -> Model {
-    let count = random.between(1, 5);
-    let node = |random: &mut Random| Node {
-        properties: random.number() as u32,
-        values: [random.below(3) as u16, 0, 0, random.below(2) as u16],
-    };
-    let nodes = (0..count).map(|_| node(random)).collect();
-    let names = [0, 1, 12, 127].map(|name| (name, random.below(count) as u8)).to_vec();
-    let edge = |random: &mut Random| {
-        (random.below(count) as u8, random.pick(&[0, 0, 1, 7]), random.below(count) as u8)
-    };
-    let edges = (0..random.below(8)).map(|_| edge(random)).collect();
-    Model { nodes, names, edges }
 }
 
 /// Checks that the entries are all reached, each behind its parts, which were completed in the order of its fields.

@@ -6,17 +6,14 @@ mod parse;
 mod spell;
 
 pub use parse::{Fault, parse};
-pub use spell::spell;
+pub use spell::{sign, spell};
 
 use crate::finding::Refusal;
-use crate::pattern::{Comparison, Pattern};
+use crate::pattern::{Comparison, MAX_ENTRIES, Pattern};
 use entries::entries_of;
 
 /// The bytes of the longest text.
 pub const MAX_TEXT: usize = 1024;
-
-/// The entries of the largest pattern.
-pub const MAX_ENTRIES: usize = 255;
 
 /// A node text, as it stands.
 #[derive(Clone, Debug, PartialEq, Eq)]
