@@ -458,9 +458,12 @@ fn the_tool_names_a_file_that_it_cannot_read() {
 #[test]
 fn the_tool_refuses_wrong_arguments() {
     let one = Path::new("one");
-    for arguments in [&[][..], &[one], &[one, one, one]] {
+    for arguments in [&[][..], &[one], &[one, one, one], &[Path::new("--one"), one]] {
         let output = run(arguments);
         assert_eq!(output.status.code(), Some(2));
-        assert_eq!(String::from_utf8(output.stderr).unwrap(), "usage: explain pattern.bin proposal.bin\n");
+        assert_eq!(
+            String::from_utf8(output.stderr).unwrap(),
+            "usage: explain (PATTERN | -e TEXT | --text FILE) PROPOSAL\n"
+        );
     }
 }

@@ -1,22 +1,36 @@
-//! `explain pattern.bin proposal.bin`: prints why a judgement comes out as it does.
+//! `explain PATTERN PROPOSAL`: prints why a judgement comes out as it does.
 
-use oracle::tool;
-use std::env;
+use oracle::explain::{explain, explain_typed};
+use oracle::tool::given::{Found, Given, Words};
+use oracle::tool::{self, read};
+use std::ffi::OsString;
 use std::path::{Path, PathBuf};
 use std::process::ExitCode;
 
-const USAGE: &str = "usage: explain pattern.bin proposal.bin";
+const USAGE: &str = "usage: explain (PATTERN | -e TEXT | --text FILE) PROPOSAL";
 
 fn main() -> ExitCode {
-    let arguments: Vec<PathBuf> = env::args_os().skip(1).map(PathBuf::from).collect();
-    let [pattern, proposal] = &arguments[..] else {
+    let Some((pattern, proposal)) = arguments(std::env::args_os().skip(1)) else {
         eprintln!("{USAGE}");
         return ExitCode::from(2);
     };
-    tool::status("explain", run(pattern, proposal))
+    tool::status("explain", run(&pattern, &proposal))
 }
 
-fn run(pattern: &Path, proposal: &Path) -> Result<bool, String> {
-    tool::print(oracle::explain::explain(&tool::read(pattern)?, &tool::read(proposal)?))?;
+/// `None` if they aren't a pattern and a proposal.
+fn arguments(mut words: impl Iterator<Item = OsString>) -> Option<(Given, PathBuf)> {
+    let mut named = Words::default();
+    while let Some(word) = words.next() {
+        named.take(word, &mut words)?;
+    }
+    named.pattern_and_proposal()
+}
+
+fn run(pattern: &Given, proposal: &Path) -> Result<bool, String> {
+    let (pattern, proposal) = (pattern.read()?, read(proposal)?);
+    tool::print(match pattern {
+        Found::File(pattern) => explain(&pattern, &proposal),
+        Found::Text(text) => explain_typed(&text, &proposal),
+    })?;
     Ok(true)
 }

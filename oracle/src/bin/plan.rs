@@ -1,22 +1,24 @@
-//! `plan pattern.bin proposal.bin`: searches for a closed tableau, or for a small model that meets the
+//! `plan PATTERN PROPOSAL`: searches for a closed tableau, or for a small model that meets the
 //! pattern, and writes it as a proposal.
 
 use std::ffi::OsString;
 use std::io;
-use std::path::{Path, PathBuf};
+use std::path::PathBuf;
 use std::process::ExitCode;
 
 use oracle::explain;
-use oracle::pattern::{self, Pattern};
+use oracle::pattern::{self, LONGEST, Pattern};
 use oracle::planner::{Effort, Plan, plan};
+use oracle::tool::given::{Found, Given, Words};
 use oracle::tool::{self, counted, target};
+use oracle::typed::type_pattern;
 
-const USAGE: &str = "usage: plan [--budget N] [--seed N] PATTERN PROPOSAL";
+const USAGE: &str = "usage: plan [--budget N] [--seed N] (PATTERN | -e TEXT | --text FILE) PROPOSAL";
 const BUDGET: usize = 100_000;
 
 /// What was asked for.
 struct Arguments {
-    pattern: PathBuf,
+    pattern: Given,
     proposal: PathBuf,
     effort: Effort,
 }
@@ -29,35 +31,36 @@ fn main() -> ExitCode {
     tool::status("plan", run(&arguments))
 }
 
-/// `None` if they aren't two files and options.
+/// `None` if they aren't a pattern, a proposal and options.
 fn arguments(mut words: impl Iterator<Item = OsString>) -> Option<Arguments> {
-    let mut files = Vec::new();
+    let mut named = Words::default();
     let mut effort = Effort { budget: BUDGET, seed: 0 };
     while let Some(word) = words.next() {
         let mut number = || words.next()?.to_str()?.parse::<u64>().ok();
         match word.to_str() {
             Some("--budget") => effort.budget = usize::try_from(number()?).ok()?,
             Some("--seed") => effort.seed = number()?,
-            Some(option) if option.starts_with('-') => return None,
-            _ => files.push(PathBuf::from(word)),
+            _ => named.take(word, &mut words)?,
         }
     }
-    let [pattern, proposal] = <[PathBuf; 2]>::try_from(files).ok()?;
+    let (pattern, proposal) = named.pattern_and_proposal()?;
     Some(Arguments { pattern, proposal, effort })
 }
 
 /// Writes what the search finds, and says what it is.
 fn run(arguments: &Arguments) -> Result<bool, String> {
-    let Arguments { pattern: file, proposal, effort } = arguments;
+    let Arguments { pattern: given, proposal, effort } = arguments;
     let unwritable = |error| format!("{}: can't be written: {error}", proposal.display());
-    let pattern = read_pattern(file)?;
+    let pattern = read_pattern(given)?;
     let target = target::find(proposal).map_err(unwritable)?;
-    if target.is(file).map_err(unwritable)? {
+    if let Some(file) = given.file()
+        && target.is(file).map_err(unwritable)?
+    {
         return Err(unwritable(io::Error::other("it is the pattern")));
     }
     target.allows().map_err(unwritable)?;
     let Some(plan) = plan(&pattern, *effort) else {
-        return Err(format!("{}: nothing found within a budget of {}", file.display(), effort.budget));
+        return Err(format!("{}: nothing found within a budget of {}", given.name(), effort.budget));
     };
     let (bytes, written) = match plan {
         Plan::Tableau(tableau) => {
@@ -70,7 +73,13 @@ fn run(arguments: &Arguments) -> Result<bool, String> {
     Ok(true)
 }
 
-fn read_pattern(file: &Path) -> Result<Pattern, String> {
-    pattern::parse(&tool::read(file)?)
-        .map_err(|refusal| format!("{}: {}", file.display(), explain::refused(refusal)))
+fn read_pattern(given: &Given) -> Result<Pattern, String> {
+    let (file, named) = (given.read()?, |words: String| format!("{}: {words}", given.name()));
+    let bytes = match file {
+        Found::File(bytes) => bytes,
+        Found::Text(text) => {
+            type_pattern(&text, LONGEST).map_err(|refusal| named(explain::text_refused(&text, refusal)))?
+        }
+    };
+    pattern::parse(&bytes).map_err(|refusal| named(explain::refused(refusal)))
 }

@@ -1,6 +1,7 @@
-//! What the tools have in common: how they read, print and count, and how they end. `target` is the file that one
-//! writes.
+//! What the tools have in common: how they read, print and count, and how they end. `given` is the pattern that one is
+//! given, `target` the file that one writes.
 
+pub mod given;
 pub mod target;
 
 use std::fmt::Display;

@@ -5,12 +5,12 @@ mod entries;
 mod parse;
 mod spell;
 
+pub use entries::entries_of;
 pub use parse::{Fault, parse};
 pub use spell::{sign, spell};
 
 use crate::finding::Refusal;
 use crate::pattern::{Comparison, MAX_ENTRIES, Pattern};
-use entries::entries_of;
 
 /// The bytes of the longest text.
 pub const MAX_TEXT: usize = 1024;
