@@ -4,13 +4,13 @@
 mod common;
 
 use common::directory::Directory;
+use common::output::{check_failure, check_success, printed, run_fed};
 use common::{ENTRIES_A, ENTRIES_G, model_g, model_line, pattern, tableau_line};
 use oracle::explain::{explain, explain_typed};
 use std::ffi::OsStr;
 use std::fs;
-use std::io::Write;
 use std::os::unix::ffi::OsStrExt;
-use std::process::{Command, Output, Stdio};
+use std::process::{Command, Output};
 
 const EXPLAIN: &str = env!("CARGO_BIN_EXE_explain");
 const PLAN: &str = env!("CARGO_BIN_EXE_plan");
@@ -21,35 +21,20 @@ fn run(tool: &str, arguments: &[&OsStr]) -> Output {
     Command::new(tool).args(arguments).output().expect("the tool runs")
 }
 
-/// Runs the tool with these bytes on standard input.
-fn run_fed(tool: &str, arguments: &[&OsStr], input: &[u8]) -> Output {
-    let mut command = Command::new(tool);
-    command.args(arguments).stdin(Stdio::piped()).stdout(Stdio::piped()).stderr(Stdio::piped());
-    let mut child = command.spawn().expect("the tool runs");
-    let _ = child.stdin.take().expect("a pipe").write_all(input);
-    child.wait_with_output().expect("the tool ends")
-}
-
-/// Checks status, standard output and standard error.
-fn check(output: &Output, status: i32, said: &str, message: &str) {
-    let [said_now, message_now] =
-        [&output.stdout, &output.stderr].map(|bytes| String::from_utf8_lossy(bytes).into_owned());
-    assert_eq!((output.status.code(), &*said_now, &*message_now), (Some(status), said, message));
-}
-
 #[test]
 fn explain_takes_a_text_from_anywhere() {
     let directory = Directory::new("typed-explain");
     let proposal = directory.file("proposal.bin", &model_g());
-    let said = explain(&pattern(&ENTRIES_G), &model_g());
+    let explained = explain(&pattern(&ENTRIES_G), &model_g());
+    let said = explained.trim_end();
     let [e, text, from, input] = ["-e", TEXT_G, "--text", "-"].map(OsStr::new);
-    check(&run(EXPLAIN, &[e, text, proposal.as_ref()]), 0, &said, "");
-    check(&run(EXPLAIN, &[proposal.as_ref(), e, text]), 0, &said, "");
+    check_success(&run(EXPLAIN, &[e, text, proposal.as_ref()]), said);
+    check_success(&run(EXPLAIN, &[proposal.as_ref(), e, text]), said);
     for ending in ["", "\n"] {
         let bytes = format!("{TEXT_G}{ending}").into_bytes();
         let file = directory.file("pattern.txt", &bytes);
-        check(&run(EXPLAIN, &[from, file.as_ref(), proposal.as_ref()]), 0, &said, "");
-        check(&run_fed(EXPLAIN, &[from, input, proposal.as_ref()], &bytes), 0, &said, "");
+        check_success(&run(EXPLAIN, &[from, file.as_ref(), proposal.as_ref()]), said);
+        check_success(&run_fed(EXPLAIN, &[from, input, proposal.as_ref()], &bytes), said);
     }
 }
 
@@ -61,15 +46,15 @@ fn other_endings_are_refused() {
     for (text, place) in [("p0\n\n", 2), ("p0\r\n", 2), ("\n", 0), ("", 0), ("p0 \n", 2)] {
         let file = directory.file("pattern.txt", text.as_bytes());
         let output = run(EXPLAIN, &[OsStr::new("--text"), file.as_ref(), proposal.as_ref()]);
-        let said = String::from_utf8_lossy(&output.stdout);
+        let said = printed(&output.stdout);
         assert!(said.starts_with(&format!("Finding: refused 30 {place}, byte {place}: ")), "{said}");
         assert_eq!(output.status.code(), Some(0));
     }
     let typed = run(EXPLAIN, &[OsStr::new("-e"), OsStr::new("p0\n"), proposal.as_ref()]);
-    assert!(String::from_utf8_lossy(&typed.stdout).starts_with("Finding: refused 30 2, "));
+    assert!(printed(&typed.stdout).starts_with("Finding: refused 30 2, "));
     let file = directory.file("pattern.txt", b"p0");
     let untold = run(EXPLAIN, &[file.as_ref(), proposal.as_ref()]);
-    assert!(String::from_utf8_lossy(&untold.stdout).starts_with("Finding: refused 1 0: "));
+    assert!(printed(&untold.stdout).starts_with("Finding: refused 1 0: "));
 }
 
 #[test]
@@ -77,15 +62,15 @@ fn plan_takes_a_text_from_anywhere() {
     let directory = Directory::new("typed-plan");
     let proposal = directory.0.join("proposal.bin");
     let [e, text, from, input] = ["-e", TEXT_A, "--text", "-"].map(OsStr::new);
-    check(&run(PLAN, &[e, text, proposal.as_ref()]), 0, "closed tableau, 3 steps\n", "");
+    check_success(&run(PLAN, &[e, text, proposal.as_ref()]), "closed tableau, 3 steps");
     let tableau = fs::read(&proposal).expect("a proposal");
     assert_eq!(tableau_line(&pattern(&ENTRIES_A), &tableau), "closed 3 1 0 4");
     let file = directory.file("pattern.txt", b"p7\n");
-    check(&run(PLAN, &[from, file.as_ref(), proposal.as_ref()]), 0, "model, 1 node\n", "");
+    check_success(&run(PLAN, &[from, file.as_ref(), proposal.as_ref()]), "model, 1 node");
     let model = fs::read(&proposal).expect("a proposal");
     assert_eq!(model_line(&pattern(&[[1, 7, 0, 0]]), &model), "met 0 1");
     let seeded = [OsStr::new("--seed"), OsStr::new("3"), from, input, proposal.as_ref()];
-    check(&run_fed(PLAN, &seeded, b"p7"), 0, "model, 1 node\n", "");
+    check_success(&run_fed(PLAN, &seeded, b"p7"), "model, 1 node");
 }
 
 #[test]
@@ -93,17 +78,17 @@ fn plan_says_where_a_text_is_refused_and_writes_nothing() {
     let directory = Directory::new("typed-refused");
     let proposal = directory.file("proposal.bin", b"old");
     let message = "plan: the text: refused 30 5, byte 5: no typed pattern has that there, or the text has over \
-                   1024 bytes\nWanted there: p n ! ( < or [.\n  (p32&\n       ^\n";
+                   1024 bytes\nWanted there: p n ! ( < or [.\n  (p32&\n       ^";
     let output = run(PLAN, &[OsStr::new("-e"), OsStr::new("(p32&"), proposal.as_ref()]);
-    check(&output, 1, "", message);
+    check_failure(&output, 1, message);
     let file = directory.file("pattern.txt", b"[=9]\n");
     let named = format!("plan: {}: refused 31 2, byte 2: the number is out of range\n", file.display());
     let output = run(PLAN, &[OsStr::new("--text"), file.as_ref(), proposal.as_ref()]);
-    let said = "The last property is 31, the last name 127, axis 7, channel 3.\n  [=9]\n    ^\n";
-    check(&output, 1, "", &format!("{named}{said}"));
+    let said = "The last property is 31, the last name 127, axis 7, channel 3.\n  [=9]\n    ^";
+    check_failure(&output, 1, &format!("{named}{said}"));
     let input = [OsStr::new("--text"), OsStr::new("-"), proposal.as_ref()];
     let output = run_fed(PLAN, &input, b"");
-    let message = String::from_utf8_lossy(&output.stderr);
+    let message = printed(&output.stderr);
     assert!(message.starts_with("plan: standard input: refused 30 0, byte 0: "), "{message}");
     assert_eq!(fs::read(&proposal).expect("the old file"), b"old");
 }
@@ -113,7 +98,7 @@ fn the_file_of_a_text_is_no_target() {
     let directory = Directory::new("typed-target");
     let file = directory.file("pattern.txt", b"p0\n");
     let output = run(PLAN, &[OsStr::new("--text"), file.as_ref(), file.as_ref()]);
-    check(&output, 1, "", &format!("plan: {}: can't be written: it is the pattern\n", file.display()));
+    check_failure(&output, 1, &format!("plan: {}: can't be written: it is the pattern", file.display()));
     assert_eq!(fs::read(&file).expect("the text"), b"p0\n");
 }
 
@@ -125,7 +110,7 @@ fn files_that_cannot_be_read_are_named() {
         [(directory.0.join("missing.txt"), "No such file"), (directory.0.clone(), "Is a directory")]
     {
         let output = run(EXPLAIN, &[OsStr::new("--text"), file.as_ref(), proposal.as_ref()]);
-        let message = String::from_utf8_lossy(&output.stderr);
+        let message = printed(&output.stderr);
         let named = format!("explain: {}: can't be read: {why}", file.display());
         assert!(message.starts_with(&named), "{message}");
         assert_eq!(output.status.code(), Some(1));
@@ -139,7 +124,7 @@ fn long_texts() {
     let proposal = directory.file("proposal.bin", &model_g());
     let explained = |file: &OsStr| {
         let output = run(EXPLAIN, &[OsStr::new("--text"), file, proposal.as_ref()]);
-        String::from_utf8_lossy(&output.stdout).into_owned()
+        printed(&output.stdout)
     };
     let refused = "Finding: refused 30 0, byte 0: no typed pattern has that there, or the text has over 1024 \
                    bytes.\nThe text is too long: up to 1024 bytes can be typed.\n";
@@ -174,7 +159,7 @@ fn bad_arguments_give_the_usage() {
         for (tool, usage) in [(EXPLAIN, "usage: explain (PATTERN "), (PLAN, "usage: plan [--budget N] ")] {
             let output = run(tool, arguments);
             assert_eq!(output.status.code(), Some(2), "{arguments:?}");
-            assert!(String::from_utf8_lossy(&output.stderr).starts_with(usage));
+            assert!(printed(&output.stderr).starts_with(usage));
         }
     }
 }

@@ -1,7 +1,7 @@
 //! `explain PATTERN PROPOSAL`: prints why a judgement comes out as it does.
 
 use oracle::explain::{explain, explain_typed};
-use oracle::tool::given::{Found, Given, Words};
+use oracle::tool::given::{Given, Words};
 use oracle::tool::{self, read};
 use std::ffi::OsString;
 use std::path::{Path, PathBuf};
@@ -27,10 +27,9 @@ fn arguments(mut words: impl Iterator<Item = OsString>) -> Option<(Given, PathBu
 }
 
 fn run(pattern: &Given, proposal: &Path) -> Result<bool, String> {
-    let (pattern, proposal) = (pattern.read()?, read(proposal)?);
     tool::print(match pattern {
-        Found::File(pattern) => explain(&pattern, &proposal),
-        Found::Text(text) => explain_typed(&text, &proposal),
+        Given::File(pattern) => explain(&read(pattern)?, &read(proposal)?),
+        Given::Text(text) => explain_typed(&text.read()?, &read(proposal)?),
     })?;
     Ok(true)
 }

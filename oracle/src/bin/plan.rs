@@ -9,7 +9,7 @@ use std::process::ExitCode;
 use oracle::explain;
 use oracle::pattern::{self, LONGEST, Pattern};
 use oracle::planner::{Effort, Plan, plan};
-use oracle::tool::given::{Found, Given, Words};
+use oracle::tool::given::{Given, Words};
 use oracle::tool::{self, counted, target};
 use oracle::typed::type_pattern;
 
@@ -74,10 +74,11 @@ fn run(arguments: &Arguments) -> Result<bool, String> {
 }
 
 fn read_pattern(given: &Given) -> Result<Pattern, String> {
-    let (file, named) = (given.read()?, |words: String| format!("{}: {words}", given.name()));
-    let bytes = match file {
-        Found::File(bytes) => bytes,
-        Found::Text(text) => {
+    let named = |words: String| format!("{}: {words}", given.name());
+    let bytes = match given {
+        Given::File(file) => tool::read(file)?,
+        Given::Text(text) => {
+            let text = text.read()?;
             type_pattern(&text, LONGEST).map_err(|refusal| named(explain::text_refused(&text, refusal)))?
         }
     };

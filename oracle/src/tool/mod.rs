@@ -1,8 +1,9 @@
 //! What the tools have in common: how they read, print and count, and how they end. `given` is the pattern that one is
-//! given, `target` the file that one writes.
+//! given, `text` that of a typed one, `target` the file that one writes.
 
 pub mod given;
 pub mod target;
+pub mod text;
 
 use std::fmt::Display;
 use std::fs;
