@@ -4,7 +4,7 @@
 mod common;
 
 use common::directory::Directory;
-use common::output::{check_failure, check_success, printed, run_fed};
+use common::tool::{check_failure, check_success, printed, run_fed};
 use common::{ENTRIES_A, ENTRIES_G, model_g, model_line, pattern, tableau_line};
 use oracle::explain::{explain, explain_typed};
 use std::ffi::OsStr;

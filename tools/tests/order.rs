@@ -4,7 +4,8 @@
 mod common;
 
 use common::directory::Directory;
-use common::output::{check_failure, check_success, printed, run_full, run_unread};
+use common::output::{run_full, run_unread};
+use common::tool::{check_failure, check_success, printed};
 use common::{model, model_g, plain};
 use std::ffi::OsStr;
 use std::fs::{self, OpenOptions, Permissions};

@@ -4,7 +4,8 @@
 mod common;
 
 use common::directory::Directory;
-use common::output::{check_failure, check_success, printed, run_fed, run_full, run_unread};
+use common::output::{run_full, run_unread};
+use common::tool::{check_failure, check_success, printed, run_fed};
 use common::{ENTRIES_A, ENTRIES_G, pattern, texts};
 use oracle::random::Random;
 use std::ffi::OsStr;
