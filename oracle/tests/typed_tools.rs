@@ -164,6 +164,16 @@ fn bad_arguments_give_the_usage() {
     }
 }
 
+#[test]
+fn help_is_printed() {
+    for (tool, usage) in [(EXPLAIN, "usage: explain (PATTERN "), (PLAN, "usage: plan [--budget N] ")] {
+        let output = run(tool, &["-e", "p0", "--help"].map(OsStr::new));
+        assert_eq!((output.status.code(), printed(&output.stderr)), (Some(0), String::new()));
+        let help = printed(&output.stdout);
+        assert!(help.starts_with(usage) && help.contains("\n  --text FILE "), "{help}");
+    }
+}
+
 /// What is said below the finding.
 fn detail(text: &[u8]) -> String {
     let said = explain_typed(text, b"");

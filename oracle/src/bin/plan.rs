@@ -10,10 +10,27 @@ use oracle::explain;
 use oracle::pattern::{self, LONGEST, Pattern};
 use oracle::planner::{Effort, Plan, plan};
 use oracle::tool::given::{Given, Words};
-use oracle::tool::{self, counted, target};
+use oracle::tool::{self, Tool, counted, target};
 use oracle::typed::type_pattern;
 
-const USAGE: &str = "usage: plan [--budget N] [--seed N] (PATTERN | -e TEXT | --text FILE) PROPOSAL";
+const TOOL: Tool = Tool {
+    name: "plan",
+    usage: "usage: plan [--budget N] [--seed N] (PATTERN | -e TEXT | --text FILE) PROPOSAL",
+    help: "\
+Searches for a closed tableau, and for a small model that meets the pattern, and writes
+what it finds to PROPOSAL, whole or not at all.
+
+  -e TEXT       take the typed pattern TEXT, not a pattern file
+  --text FILE   take the typed pattern in FILE, or on standard input if FILE is -; a
+                line feed at its end is no part of it
+  --budget N    how long it tries, 100000 if not said
+  --seed N      settles the order of what is equally good
+  --help        print this
+
+Exit status: 0 if PROPOSAL is there; 1, with a message, if a file can't be read or
+written, the pattern is refused or nothing was found; 2 for other arguments.
+",
+};
 const BUDGET: usize = 100_000;
 
 /// What was asked for.
@@ -24,11 +41,7 @@ struct Arguments {
 }
 
 fn main() -> ExitCode {
-    let Some(arguments) = arguments(std::env::args_os().skip(1)) else {
-        eprintln!("{USAGE}");
-        return ExitCode::from(2);
-    };
-    tool::status("plan", run(&arguments))
+    TOOL.start(arguments, run)
 }
 
 /// `None` if they aren't a pattern, a proposal and options.
@@ -69,7 +82,7 @@ fn run(arguments: &Arguments) -> Result<bool, String> {
         Plan::Model(model) => (model.to_bytes(), format!("model, {}", counted(model.nodes.len(), "node"))),
     };
     target.put(&bytes).map_err(unwritable)?;
-    tool::tell("plan", &written);
+    tool::tell(TOOL.name, &written);
     Ok(true)
 }
 

@@ -4,7 +4,7 @@ use oracle::explain::text_refused;
 use oracle::finding::Refusal;
 use oracle::tool::target::{self, Target};
 use oracle::tool::text::Text;
-use oracle::tool::{self, counted};
+use oracle::tool::{self, Tool, counted};
 use std::ffi::OsString;
 use std::io;
 use std::os::unix::ffi::OsStringExt;
@@ -12,9 +12,10 @@ use std::path::{Path, PathBuf};
 use std::process::ExitCode;
 use unit::{Finding, PATTERN_LONGEST};
 
-const USAGE: &str = "usage: type [-o FILE] [--over] (TEXT | --text FILE)";
-
-const HELP: &str = "\
+const TOOL: Tool = Tool {
+    name: "type",
+    usage: "usage: type [-o FILE] [--over] (TEXT | --text FILE)",
+    help: "\
 Writes the pattern file of TEXT, such as '(p0&!<1>n2)': without spaces, numbers without
 leading zeros, up to 1,024 bytes.
 
@@ -32,23 +33,18 @@ leading zeros, up to 1,024 bytes.
 The file stands there whole or not at all. Exit status: 0 if it is there; 1, with a
 message, if a file can't be read or written or the text is refused; 2 for other
 arguments.
-";
+",
+};
 
 /// What was asked for.
-enum Asked {
-    Help,
-    Type { text: Text, file: PathBuf, over: bool },
+struct Asked {
+    text: Text,
+    file: PathBuf,
+    over: bool,
 }
 
 fn main() -> ExitCode {
-    match asked(std::env::args_os().skip(1)) {
-        Some(Asked::Help) => tool::status("type", tool::print(format!("{USAGE}\n{HELP}")).map(|_| true)),
-        Some(Asked::Type { text, file, over }) => tool::status("type", write(&text, &file, over)),
-        None => {
-            eprintln!("{USAGE}");
-            ExitCode::from(2)
-        }
-    }
+    TOOL.start(asked, write)
 }
 
 /// `None` if it isn't one text and options.
@@ -56,7 +52,6 @@ fn asked(mut words: impl Iterator<Item = OsString>) -> Option<Asked> {
     let (mut texts, mut file, mut over) = (Vec::new(), None, false);
     while let Some(word) = words.next() {
         match word.to_str() {
-            Some("--help") => return Some(Asked::Help),
             Some("--over") => over = true,
             Some("-o") if file.is_none() => file = Some(PathBuf::from(words.next()?)),
             Some("--text") => texts.push(Text::File(words.next()?.into())),
@@ -65,11 +60,11 @@ fn asked(mut words: impl Iterator<Item = OsString>) -> Option<Asked> {
         }
     }
     let [text] = <[Text; 1]>::try_from(texts).ok()?;
-    Some(Asked::Type { text, file: file.unwrap_or("pattern.bin".into()), over })
+    Some(Asked { text, file: file.unwrap_or("pattern.bin".into()), over })
 }
 
 /// Writes the pattern file, and says what it has.
-fn write(text: &Text, file: &Path, over: bool) -> Result<bool, String> {
+fn write(Asked { text, file, over }: &Asked) -> Result<bool, String> {
     let unwritable = |error: io::Error| format!("{}: can't be written: {error}", file.display());
     let pattern = typed(&text.read()?).map_err(|words| format!("{}: {words}", text.name()))?;
     let target = target::find(file).map_err(unwritable)?;
@@ -83,7 +78,7 @@ fn write(text: &Text, file: &Path, over: bool) -> Result<bool, String> {
     }
     target.allows().map_err(unwritable)?;
     target.put(&pattern).map_err(unwritable)?;
-    tool::tell("type", &done(file, &pattern));
+    tool::tell(TOOL.name, &done(file, &pattern));
     Ok(true)
 }
 
