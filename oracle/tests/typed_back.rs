@@ -55,19 +55,19 @@ fn every_sample_pattern() {
             }
         }
     }
+    long.sort();
     assert!(same > 120 && another > 15, "{same} {another}");
-    assert!(
-        long.iter().all(|name| name == "either_254_deep" || name == "half_of_255_entries_nodes"),
-        "{long:?}"
-    );
+    assert_eq!(long, ["either_254_deep", "half_of_255_entries_nodes"]);
 }
 
-/// Entries are put before those of a typed pattern, and the references moved up: the root doesn't reach them.
 #[test]
-fn entries_that_the_root_does_not_reach() {
-    let (one, other) = (common::pattern(&[[1, 9, 0, 0], [1, 0, 0, 0], [3, 1, 0, 0]]), "!p0");
-    assert_eq!(printed(&one), Some((other.to_string(), false)));
-    assert_eq!(typed_back(&one), Some(false));
+fn entries_that_the_root_does_not_reach_or_in_another_order() {
+    let unreached = common::pattern(&[[1, 9, 0, 0], [1, 0, 0, 0], [3, 1, 0, 0]]);
+    assert_eq!(printed(&unreached), Some(("!p0".to_string(), false)));
+    assert_eq!(typed_back(&unreached), Some(false));
+    let exchanged = common::pattern(&[[1, 1, 0, 0], [1, 0, 0, 0], [4, 1, 0, 0]]);
+    assert_eq!(printed(&exchanged), Some(("(p0&p1)".to_string(), false)));
+    assert_eq!(typed_back(&exchanged), Some(false));
 }
 
 /// A typed pattern is printed as a text that gives it again.

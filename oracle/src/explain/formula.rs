@@ -97,7 +97,7 @@ impl<'a> Formula<'a> {
         }
     }
 
-    /// How the pattern is typed, and what is another in the file that this gives.
+    /// How the pattern is typed, and whether that gives another file.
     fn typed(&self) -> String {
         let Some(text) = spell(self.pattern) else {
             return format!("Too long to type: its text has over {MAX_TEXT} bytes.");
