@@ -135,16 +135,34 @@ fn everything_occurs_and_what_never_does_is_named() {
     };
     assert_eq!(missing(|_| {}), [""; 0]);
     assert_eq!(missing(|tally| tally.met = 0), ["finding met"]);
-    assert_eq!(missing(|tally| tally.refused[0][8].times = 0), ["refusal 8 of reading a pattern"]);
-    assert_eq!(missing(|tally| tally.refused[1][14].times = 0), ["refusal 14 of judging a model"]);
-    assert_eq!(missing(|tally| tally.refused[1][27].times = 0), ["refusal 27 of judging a model"]);
-    assert_eq!(missing(|tally| assert!(tally.names[0].remove(&77))), ["name 77 refused 27"]);
-    assert_eq!(missing(|tally| tally.refused[1][28].times = 0), ["refusal 28 of judging a model"]);
-    assert_eq!(missing(|tally| tally.refused[2][24].times = 0), ["refusal 24 of judging a tableau"]);
-    assert_eq!(missing(|tally| tally.written = 0), ["finding written"]);
-    assert_eq!(missing(|tally| tally.refused[3][29].times = 0), ["refusal 29 of putting a model in order"]);
     assert_eq!(
-        missing(|tally| tally.refused[4][14].times = 0),
+        missing(|tally| assert!(tally.refused[0].remove(&8).is_some())),
+        ["refusal 8 of reading a pattern"]
+    );
+    assert_eq!(
+        missing(|tally| assert!(tally.refused[1].remove(&14).is_some())),
+        ["refusal 14 of judging a model"]
+    );
+    assert_eq!(
+        missing(|tally| assert!(tally.refused[1].remove(&27).is_some())),
+        ["refusal 27 of judging a model"]
+    );
+    assert_eq!(missing(|tally| assert!(tally.names[0].remove(&77))), ["name 77 refused 27"]);
+    assert_eq!(
+        missing(|tally| assert!(tally.refused[1].remove(&28).is_some())),
+        ["refusal 28 of judging a model"]
+    );
+    assert_eq!(
+        missing(|tally| assert!(tally.refused[2].remove(&24).is_some())),
+        ["refusal 24 of judging a tableau"]
+    );
+    assert_eq!(missing(|tally| tally.written = 0), ["finding written"]);
+    assert_eq!(
+        missing(|tally| assert!(tally.refused[3].remove(&29).is_some())),
+        ["refusal 29 of putting a model in order"]
+    );
+    assert_eq!(
+        missing(|tally| assert!(tally.refused[4].remove(&14).is_some())),
         ["refusal 14 of judging a model put in order"]
     );
     assert_eq!(missing(|tally| assert!(tally.areas.remove(&0))), ["an area of 0 bytes wanted"]);
