@@ -20,7 +20,7 @@ pub struct Grid {
 
 pub const GRIDS: [Grid; 2] = [
     Grid {
-        heading: "numbers in texts",
+        heading: "numbers in texts, by what stands before them",
         rows: &["property p", "name n", "axis <", "channel =", "channel #", "axis /", "name @"],
         columns: &[
             "at the limit",
@@ -35,7 +35,7 @@ pub const GRIDS: [Grid; 2] = [
         shown: numbers,
     },
     Grid {
-        heading: "the first byte that can't stand where it does, where one may go on with",
+        heading: "first wrong byte of a text, by what may stand there",
         rows: &[
             "a node",
             "& or |",

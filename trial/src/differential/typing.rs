@@ -1,6 +1,7 @@
 //! Typed patterns: what an input shows of refusals 30 to 32, of how entries are completed, and of judging one.
 
 use super::limits::{Judged, Limit};
+use crate::generate::input::{Input, Operation};
 use oracle::finding::Finding;
 use oracle::typed::{Fault, MAX_TEXT, parse, type_pattern};
 
@@ -71,16 +72,16 @@ pub const COMPLETED: [Limit; 30] = [
     ("destination as long as the file", |it| it.destination_over(0)),
     ("destination one longer", |it| it.destination_over(1)),
     ("file of 1,026 bytes in as many", |it| it.destination_over(0) && it.input.area.length == 1026),
-    ("property", |it| it.writes(&[1])),
-    ("name", |it| it.writes(&[2])),
-    ("not", |it| it.writes(&[3])),
-    ("both", |it| it.writes(&[4])),
-    ("after", |it| it.writes(&[5])),
-    ("same", |it| it.writes(&[6])),
-    ("differ", |it| it.writes(&[7])),
-    ("step", |it| it.writes(&[8])),
-    ("jump", |it| it.writes(&[9])),
-    ("either", |it| it.writes(&[12])),
+    ("property", |it| it.writes(1)),
+    ("name", |it| it.writes(2)),
+    ("not", |it| it.writes(3)),
+    ("both", |it| it.writes(4)),
+    ("after", |it| it.writes(5)),
+    ("same", |it| it.writes(6)),
+    ("differ", |it| it.writes(7)),
+    ("step", |it| it.writes(8)),
+    ("jump", |it| it.writes(9)),
+    ("either", |it| it.writes(12)),
     ("comparison of two ends", |it| it.written_with(|entry| is_comparison(entry) && entry[2..] == [255; 2])),
     ("test whose node comes before the rest of its row", |it| {
         it.written_with(|entry| entry[0] == 10 && entry[1] < entry[2] && entry[2] != 255)
@@ -97,9 +98,9 @@ pub const COMPLETED: [Limit; 30] = [
     ("something behind a brace", |it| it.has([b"}/", b"}@", b"}?", b"}{"])),
     ("empty first path of a brace with something behind", |it| it.continues_an_empty_path()),
     ("brace at the end of a brace, with something behind", |it| it.has([b"}}/", b"}}@", b"}}?", b"}}{"])),
-    ("entry that the text has more than once", |it| it.written() && it.entries_written() < it.items()),
+    ("entry that the text has more than once", |it| it.written() && it.typed.len() < it.items()),
     ("no entry that the text has more than once", |it| {
-        it.written() && it.entries_written() == it.items() && it.items() > 9
+        it.written() && it.typed.len() == it.items() && it.items() > 9
     }),
     ("50 braces in a row", |it| {
         it.written() && it.text().windows(150).any(|row| row.chunks(3).all(|brace| brace == b"{|}"))
@@ -120,6 +121,17 @@ pub const JUDGED_TEXT: [Limit; 6] = [
 
 fn is_comparison(entry: &[u8; 4]) -> bool {
     matches!(entry[0], 6 | 7)
+}
+
+/// The entries that were written of a text.
+pub fn entries_of(input: &Input, finding: Finding) -> Vec<[u8; 4]> {
+    match (input.operation, finding) {
+        (Operation::Typing, Finding::Written { .. }) => {
+            let file = type_pattern(&input.pattern, usize::MAX).expect("it was written");
+            file[6..].as_chunks().0.to_vec()
+        }
+        _ => Vec::new(),
+    }
 }
 
 /// The length of the text's file, for a destination that is long enough.
@@ -174,25 +186,12 @@ impl Judged<'_> {
             && matches!(fault(), Some(Fault::Stray { wanted, .. }) if wanted == asked)
     }
 
-    /// The entries that were written.
-    fn file_entries(&self) -> Vec<[u8; 4]> {
-        if !self.written() {
-            return Vec::new();
-        }
-        let file = type_pattern(self.text(), usize::MAX).expect("it was written");
-        file[6..].as_chunks().0.to_vec()
-    }
-
     fn written_with(&self, is_such: fn(&[u8; 4]) -> bool) -> bool {
-        self.file_entries().iter().any(is_such)
+        self.typed.iter().any(is_such)
     }
 
-    fn writes(&self, kinds: &[u8]) -> bool {
-        self.file_entries().iter().any(|entry| kinds.contains(&entry[0]))
-    }
-
-    fn entries_written(&self) -> usize {
-        self.length().map_or(0, |length| (length - 6) / 4)
+    fn writes(&self, kind: u8) -> bool {
+        self.typed.iter().any(|entry| entry[0] == kind)
     }
 
     /// How many entries the text would have if none were equal.

@@ -31,12 +31,12 @@ pub fn to_be_typed(random: &mut Random, input: &mut Input) {
 
 /// A model to be judged of a typed pattern, now and then of one that is refused; or a model at a limit.
 pub fn judged(random: &mut Random, corpus: &Corpus, input: &mut Input) {
-    let mut text = texts::random(random);
+    let mut text = if random.once_in(16) { texts::with_number(random) } else { texts::random(random) };
     if random.once_in(8) {
         texts::spoil(random, &mut text);
     }
     input.pattern = type_pattern(&text, usize::MAX).unwrap_or_default();
-    if random.once_in(8) {
+    if random.once_in(4) {
         model::limit(random, input);
     } else {
         model::for_pattern(random, corpus, input);

@@ -2,14 +2,15 @@
 
 use super::{ALPHABET, small};
 use oracle::random::Random;
-use oracle::typed::{Fault, parse};
+use oracle::typed::{Fault, MAX_TEXT, parse};
 use std::collections::BTreeMap;
 
 /// A text in which everything stands that can.
 const EVERYTHING: &[u8] = b"(!p10&[{?(n2|<1>p0)|@3}/4#0/1{|}])";
 
-/// Bytes that occur in no text of the grammar; the first is a sign of a later request.
-const FOREIGN: &[u8] = b"^\n \r\t\0Pa-~+\x80\xff";
+/// Bytes that occur in no text of the grammar, beside a sign of a later request.
+const FOREIGN: &[u8] = b"\n \r\t\0Pa-~+\x80\xff";
+const LATER: u8 = b'^';
 
 /// Cuts a text short, or changes, inserts, removes or exchanges bytes of it, once or up to three times.
 pub fn spoil(random: &mut Random, text: &mut Vec<u8>) {
@@ -25,7 +26,7 @@ pub fn spoil(random: &mut Random, text: &mut Vec<u8>) {
                 text.remove(one);
             }
             5 if one.max(other) < text.len() => text.swap(one, other),
-            6 => {
+            6 if text.len() <= MAX_TEXT => {
                 let copied = text[one.min(other)..one.max(other)].to_vec();
                 text.splice(one..one, copied);
             }
@@ -37,9 +38,13 @@ pub fn spoil(random: &mut Random, text: &mut Vec<u8>) {
 fn stray(random: &mut Random) -> u8 {
     match random.below(8) {
         0 => random.byte(),
-        1 | 2 => random.pick(FOREIGN),
+        1 | 2 => foreign(random),
         _ => random.pick(ALPHABET),
     }
+}
+
+fn foreign(random: &mut Random) -> u8 {
+    if random.once_in(3) { LATER } else { random.pick(FOREIGN) }
 }
 
 /// A text that is right up to a place, where it ends or another byte stands: places are drawn by what may stand there, so
@@ -62,7 +67,7 @@ pub fn misplace(random: &mut Random) -> Vec<u8> {
             text.push(stray(random));
         }
         3 if place < text.len() => text[place] = random.pick(b"0123456789"),
-        4 => text.insert(place, random.pick(FOREIGN)),
+        4 => text.insert(place, foreign(random)),
         5 if place < text.len() => text[place] = b'\n',
         _ => text.insert(place, stray(random)),
     }

@@ -97,16 +97,22 @@ fn exactly(length: usize) -> Vec<u8> {
     [b"(", &exactly(first)[..], b"&", &exactly(length - 3 - first), b")"].concat()
 }
 
-/// A text of 1,024 bytes or one that is longer, by one or by more than 16 bits can tell; seldom of other bytes.
+/// A text of 1,024 bytes or one more, now and then with a number out of range; or of one byte all over, which no text of
+/// the grammar is, as long or longer than 16 bits can tell.
 pub fn long(random: &mut Random) -> Vec<u8> {
-    match random.below(8) {
-        0..3 => exactly(MAX_TEXT),
-        3..6 => exactly(MAX_TEXT + 1),
-        6 => exactly(random.between(MAX_TEXT - 2, MAX_TEXT + 300)),
-        _ => {
-            let length = MAX_TEXT + 1 + random.below(3) * 65_536 / 2;
-            let byte = random.pick(&[b'!', b'(', b'0', b'\n', 0]);
-            vec![byte; length]
-        }
+    if random.once_in(4) {
+        let length = random.pick(&[MAX_TEXT, MAX_TEXT, MAX_TEXT + 1, 65_536 + 2, 65_536 + MAX_TEXT]);
+        return vec![random.pick(b"!!((0\n\0"); length];
     }
+    let length =
+        if random.once_in(8) { random.between(900, 1300) } else { random.between(MAX_TEXT, MAX_TEXT + 1) };
+    let mut text = match random.below(2) {
+        0 => exactly(length),
+        _ => [b"!", &exactly(length - 1)[..]].concat(),
+    };
+    if random.once_in(4) {
+        let numbers: Vec<usize> = (1..length).filter(|&place| text[place - 1..].starts_with(b"p1")).collect();
+        text[random.pick(&numbers)] = b'9';
+    }
+    text
 }
