@@ -8,7 +8,7 @@ mod tree;
 
 pub use faults::{misplace, spoil};
 pub use numbers::with_number;
-pub use shapes::{long, shaped};
+pub use shapes::{exactly, long, shaped};
 
 use crate::generate::patterns;
 use oracle::random::Random;

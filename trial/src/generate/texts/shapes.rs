@@ -88,7 +88,7 @@ fn many_entries(random: &mut Random, times: usize) -> Vec<u8> {
 }
 
 /// A text of the grammar of just so many bytes, two at least, and of few entries.
-fn exactly(length: usize) -> Vec<u8> {
+pub fn exactly(length: usize) -> Vec<u8> {
     if length < 7 {
         let leaf = if length == 2 { "p0" } else { "p10" };
         return ("!".repeat(length - leaf.len()) + leaf).into_bytes();
