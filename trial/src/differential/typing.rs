@@ -50,10 +50,10 @@ pub const REFUSED: [Limit; 27] = [
         it.refused(32) && it.text()[0] == b'!' && file_of(&it.text()[1..]) == Some(1026)
     }),
     ("256 entries and more refused 32 in 1,026 bytes", |it| {
-        it.refused(32) && it.file() == None && it.input.area.length == 1026
+        it.refused(32) && it.file().is_none() && it.input.area.length == 1026
     }),
     ("256 entries and more refused 32 in over 1,026 bytes", |it| {
-        it.refused(32) && it.file() == None && it.input.area.length > 1026
+        it.refused(32) && it.file().is_none() && it.input.area.length > 1026
     }),
     ("destination one short refused 32", |it| it.refused(32) && it.file() == Some(it.input.area.length + 1)),
     ("destination of 1,025 bytes refused 32 for a file of 1,026", |it| {

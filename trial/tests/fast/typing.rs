@@ -1,7 +1,10 @@
 //! Typed patterns: what the words of document 02's Job 7 say of texts, one by one.
 
 use oracle::finding::{Finding, Refusal};
+use oracle::random::Random;
+use trial::differential::implementation::type_pattern;
 use trial::fast;
+use trial::generate::texts;
 
 /// What is found of the text, and the entries that are written.
 fn typed(text: &[u8]) -> (Finding, Vec<[u8; 4]>) {
@@ -85,10 +88,9 @@ fn each_different_entry_stands_once() {
     writes("(p0&p0)", &[[1, 0, 0, 0], [4, 0, 0, 0]]);
     writes("(!p0|<0>!p0)", &[[1, 0, 0, 0], [3, 0, 0, 0], [5, 0, 1, 0], [12, 1, 2, 0]]);
     writes("[/0/0=0/0]", &[[8, 0, 255, 0], [8, 0, 0, 0], [6, 0, 1, 0]]);
-    let row = "{/0|/1}".repeat(145);
-    let (finding, entries) = typed(format!("[{row}=0]").as_bytes());
-    assert_eq!((finding, entries.len()), (Finding::Refused(Refusal { number: 32, place: 0 }), 0));
-    assert_eq!(typed(format!("[{}=0]", "{/0|/1}".repeat(84)).as_bytes()).1.len(), 253);
+    let row = |braces| format!("[{}=0]", "{/0|/1}".repeat(braces));
+    assert_eq!(typed(row(84).as_bytes()).1.len(), 253);
+    refuses(row(85).as_bytes(), 32, 0);
 }
 
 #[test]
@@ -162,4 +164,22 @@ fn entries_and_room_are_looked_at_last() {
         assert_eq!(finding, Finding::Refused(Refusal { number: 32, place: 0 }));
     }
     assert_eq!(fast::type_pattern(b"!p0", &mut [0; 14]), Finding::Written { length: 14 });
+}
+
+#[test]
+fn generated_texts_are_typed_as_the_oracle_does() {
+    let generators = [texts::random, texts::misplace, texts::with_number, texts::long, texts::shaped];
+    for number in 0..20_000 {
+        let mut random = Random::new(7, number);
+        let mut text = random.pick(&generators)(&mut random);
+        if random.once_in(4) {
+            texts::spoil(&mut random, &mut text);
+        }
+        let length = random.pick(&[1026, 1026, 1025, 50, 0]);
+        let [fast, oracle] = [fast::type_pattern, type_pattern].map(|type_pattern| {
+            let mut destination = vec![0xa5; length];
+            (type_pattern(&text, &mut destination), destination)
+        });
+        assert_eq!(fast, oracle, "{}", text.escape_ascii());
+    }
 }

@@ -110,9 +110,11 @@ pub fn long(random: &mut Random) -> Vec<u8> {
         0 => exactly(length),
         _ => [b"!", &exactly(length - 1)[..]].concat(),
     };
-    if random.once_in(4) {
-        let numbers: Vec<usize> = (1..length).filter(|&place| text[place - 1..].starts_with(b"p1")).collect();
-        text[random.pick(&numbers)] = b'9';
+    let from = random.below(length);
+    if random.once_in(4)
+        && let Some(letter) = text[from..].windows(2).position(|pair| pair == b"p1")
+    {
+        text[from + letter + 1] = b'9';
     }
     text
 }
