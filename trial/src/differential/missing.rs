@@ -32,18 +32,7 @@ impl Tally {
             }));
         }
         self.add_rules(&mut seen);
-        for Situations { sort, shown, .. } in SITUATIONS {
-            seen.extend(
-                shown.iter().map(|(words, _)| (self.showing(sort, words), format!("{sort}: {words}"))),
-            );
-        }
-        for (names, (what, _)) in self.names.iter().zip(EACH_NAME) {
-            let each = 0..=MAX_NAME.into();
-            seen.extend(each.map(|name| (names.contains(&name).into(), format!("name {name} {what}"))));
-        }
-        for (grid, counts) in GRIDS.iter().zip(&self.grids) {
-            seen.extend(grid.cells().map(|(cell, words)| (counts.get(&cell).copied().unwrap_or(0), words)));
-        }
+        self.add_situations(&mut seen);
         for length in (0..=model::AREA).step_by(model::AREA / MAX_ENTRIES) {
             seen.push((self.areas.contains(&length).into(), format!("an area of {length} bytes wanted")));
         }
@@ -56,6 +45,22 @@ impl Tally {
             seen.push((self.kinds[kind as usize], format!("an input of the kind: {}", kind.words())));
         }
         seen.into_iter().filter(|(times, _)| *times == 0).map(|(_, what)| what).collect()
+    }
+
+    /// Adds what inputs must show: situations, each name in every way, and the cells of the grids.
+    fn add_situations(&self, seen: &mut Vec<(u64, String)>) {
+        for Situations { sort, shown, .. } in SITUATIONS {
+            seen.extend(
+                shown.iter().map(|(words, _)| (self.showing(sort, words), format!("{sort}: {words}"))),
+            );
+        }
+        for (names, (what, _)) in self.names.iter().zip(EACH_NAME) {
+            let each = 0..=MAX_NAME.into();
+            seen.extend(each.map(|name| (names.contains(&name).into(), format!("name {name} {what}"))));
+        }
+        for (grid, counts) in GRIDS.iter().zip(&self.grids) {
+            seen.extend(grid.cells().map(|(cell, words)| (counts.get(&cell).copied().unwrap_or(0), words)));
+        }
     }
 
     /// Adds what must be seen of the rules.

@@ -34,15 +34,7 @@ impl fmt::Display for Tally {
         }
         self.write_grids(f)?;
         self.write_each_name(f)?;
-        writeln!(f, "files of 0 to 10 bytes")?;
-        for operation in Operation::ALL {
-            writeln!(
-                f,
-                "{:>12}    for {}",
-                self.short[operation as usize].iter().sum::<u64>(),
-                words(operation)
-            )?;
-        }
+        self.write_short(f)?;
         writeln!(f, "demand 3")?;
         writeln!(f, "{:>12}    models of a pattern with a closed tableau: unmet", self.unmet_as_closed)?;
         writeln!(
@@ -59,6 +51,19 @@ impl Tally {
         for number in refusals(operation) {
             let refused = self.refused(operation, number);
             writeln!(f, "{:>12}    {number:>2} {:>12}", refused.times, refused.deepest)?;
+        }
+        Ok(())
+    }
+
+    fn write_short(&self, f: &mut fmt::Formatter<'_>) -> fmt::Result {
+        writeln!(f, "files of 0 to 10 bytes")?;
+        for operation in Operation::ALL {
+            writeln!(
+                f,
+                "{:>12}    for {}",
+                self.short[operation as usize].iter().sum::<u64>(),
+                words(operation)
+            )?;
         }
         Ok(())
     }

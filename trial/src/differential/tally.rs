@@ -77,21 +77,7 @@ impl Tally {
     pub fn count(&mut self, input: &Input, finding: Finding) {
         self.inputs += 1;
         self.kinds[input.kind as usize] += 1;
-        let judged = Judged::new(input, finding);
-        let tables = SITUATIONS.iter().filter(|table| table.of.contains(&input.operation));
-        for &Situations { sort, shown, .. } in tables {
-            for (words, _) in shown.iter().filter(|(_, shows)| shows(&judged)) {
-                *self.shown.entry((sort, words)).or_default() += 1;
-            }
-        }
-        for (names, (_, shown_of)) in self.names.iter_mut().zip(EACH_NAME) {
-            names.extend(shown_of(&judged));
-        }
-        for (counts, grid) in self.grids.iter_mut().zip(GRIDS) {
-            for cell in (grid.shown)(&judged) {
-                *counts.entry(cell).or_default() += 1;
-            }
-        }
+        self.count_shown(&Judged::new(input, finding));
         if Operation::OF_PATTERNS.contains(&input.operation) {
             self.count_short(Operation::Reading, &input.pattern);
         }
@@ -114,6 +100,24 @@ impl Tally {
             (Some(Never::Met), Finding::Unmet) => self.unmet_as_closed += 1,
             (Some(Never::Closed), Finding::Refused(refusal)) if refusal.number >= 19 => self.open_as_met += 1,
             _ => {}
+        }
+    }
+
+    /// Counts what the input shows: situations, names, and cells of the grids.
+    fn count_shown(&mut self, judged: &Judged) {
+        let tables = SITUATIONS.iter().filter(|table| table.of.contains(&judged.input.operation));
+        for &Situations { sort, shown, .. } in tables {
+            for (words, _) in shown.iter().filter(|(_, shows)| shows(judged)) {
+                *self.shown.entry((sort, words)).or_default() += 1;
+            }
+        }
+        for (names, (_, shown_of)) in self.names.iter_mut().zip(EACH_NAME) {
+            names.extend(shown_of(judged));
+        }
+        for (counts, grid) in self.grids.iter_mut().zip(GRIDS) {
+            for cell in (grid.shown)(judged) {
+                *counts.entry(cell).or_default() += 1;
+            }
         }
     }
 
@@ -177,6 +181,13 @@ impl Tally {
                 mine.entry(*number).or_default().add(*refused);
             }
         }
+        self.add_shown(other);
+        self.areas.extend(&other.areas);
+        self.distinct.extend(&other.distinct);
+    }
+
+    /// Adds what the inputs of another tally show.
+    fn add_shown(&mut self, other: &Tally) {
         for (situation, times) in &other.shown {
             *self.shown.entry(*situation).or_default() += times;
         }
@@ -186,8 +197,6 @@ impl Tally {
         for (mine, theirs) in self.names.iter_mut().zip(&other.names) {
             mine.extend(theirs);
         }
-        self.areas.extend(&other.areas);
-        self.distinct.extend(&other.distinct);
     }
 
     /// What occurred of a refusal of the operation.

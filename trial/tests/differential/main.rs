@@ -128,10 +128,43 @@ fn check_situations(complete: &Tally) {
     }
 }
 
+/// Checks that a refusal is named if it never occurs.
+fn check_refusals(complete: &Tally) {
+    for (operation, number, words) in [
+        (Operation::Reading, 8, "reading a pattern"),
+        (Operation::Model, 14, "judging a model"),
+        (Operation::Model, 27, "judging a model"),
+        (Operation::Model, 28, "judging a model"),
+        (Operation::Tableau, 24, "judging a tableau"),
+        (Operation::Ordering, 29, "putting a model in order"),
+        (Operation::Ordered, 14, "judging a model put in order"),
+        (Operation::Typing, 31, "typing a pattern"),
+        (Operation::Typed, 32, "judging a model of a typed pattern"),
+    ] {
+        let mut tally = complete.clone();
+        assert!(tally.refused[operation as usize].remove(&number).is_some());
+        assert_eq!(tally.missing(), [format!("refusal {number} of {words}")]);
+    }
+}
+
+/// Checks that a cell of a grid is named if it never occurs.
+fn check_grids(complete: &Tally) {
+    for (grid, cell, words) in [
+        (0, (6, 1), "numbers in texts, by what stands before them: name @, one above"),
+        (1, (3, 0), "first wrong byte of a text, by what may stand there: >, the end"),
+    ] {
+        let mut tally = complete.clone();
+        assert!(tally.grids[grid].remove(&cell).is_some());
+        assert_eq!(tally.missing(), [words]);
+    }
+}
+
 #[test]
 fn everything_occurs_and_what_never_does_is_named() {
     let complete = tally(COMPLETE);
     check_situations(&complete);
+    check_refusals(&complete);
+    check_grids(&complete);
     let missing = |change: fn(&mut Tally)| {
         let mut tally = complete.clone();
         change(&mut tally);
@@ -139,44 +172,8 @@ fn everything_occurs_and_what_never_does_is_named() {
     };
     assert_eq!(missing(|_| {}), [""; 0]);
     assert_eq!(missing(|tally| tally.met = 0), ["finding met"]);
-    assert_eq!(
-        missing(|tally| assert!(tally.refused[0].remove(&8).is_some())),
-        ["refusal 8 of reading a pattern"]
-    );
-    assert_eq!(
-        missing(|tally| assert!(tally.refused[1].remove(&14).is_some())),
-        ["refusal 14 of judging a model"]
-    );
-    assert_eq!(
-        missing(|tally| assert!(tally.refused[1].remove(&27).is_some())),
-        ["refusal 27 of judging a model"]
-    );
     assert_eq!(missing(|tally| assert!(tally.names[0].remove(&77))), ["name 77 refused 27"]);
-    assert_eq!(
-        missing(|tally| assert!(tally.refused[1].remove(&28).is_some())),
-        ["refusal 28 of judging a model"]
-    );
-    assert_eq!(
-        missing(|tally| assert!(tally.refused[2].remove(&24).is_some())),
-        ["refusal 24 of judging a tableau"]
-    );
     assert_eq!(missing(|tally| tally.written = 0), ["finding written"]);
-    assert_eq!(
-        missing(|tally| assert!(tally.refused[3].remove(&29).is_some())),
-        ["refusal 29 of putting a model in order"]
-    );
-    assert_eq!(
-        missing(|tally| assert!(tally.refused[4].remove(&14).is_some())),
-        ["refusal 14 of judging a model put in order"]
-    );
-    assert_eq!(
-        missing(|tally| assert!(tally.grids[0].remove(&(6, 1)).is_some())),
-        ["numbers in texts, by what stands before them: name @, one above"]
-    );
-    assert_eq!(
-        missing(|tally| assert!(tally.grids[1].remove(&(3, 0)).is_some())),
-        ["first wrong byte of a text, by what may stand there: >, the end"]
-    );
     assert_eq!(missing(|tally| assert!(tally.areas.remove(&0))), ["an area of 0 bytes wanted"]);
     assert_eq!(missing(|tally| assert!(tally.areas.remove(&2040))), ["an area of 2040 bytes wanted"]);
     let seldom = "rule 24 in a closed tableau, once in 1000 inputs";

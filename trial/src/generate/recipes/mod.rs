@@ -70,10 +70,7 @@ pub fn make(random: &mut Random, corpus: &Corpus, input: &mut Input) {
         Kind::ManyPaths => model::of_many_paths(random, input),
         Kind::PlannedModel | Kind::MutatedPlannedModel => model::planned(random, corpus, input),
         Kind::WalkedTableau | Kind::WrongStep => tableau::random_walk(random, corpus, input),
-        Kind::TableauLimit => {
-            limits::tableau::tableau(random, &mut input.pattern, &mut input.proposal);
-            input.operation = Operation::Tableau;
-        }
+        Kind::TableauLimit => tableau::limit(random, input),
         Kind::PlannedTableau | Kind::MutatedPlannedTableau => tableau::planned(random, corpus, input),
         Kind::OtherName => tableau::other_name(random, corpus, input),
         Kind::Exchanged => exchanged(random, corpus, input),
@@ -85,11 +82,7 @@ pub fn make(random: &mut Random, corpus: &Corpus, input: &mut Input) {
         }
         Kind::JudgedOldModel => older::judged(random, corpus, input),
         Kind::NodesAndPaths => model::of_nodes_and_paths(random, input),
-        Kind::AreaOfPattern => {
-            input.operation = Operation::Area;
-            let nodes = if random.once_in(8) { 1 } else { random.between(1, MAX_ENTRIES) };
-            input.pattern = patterns::of_nodes(random, nodes, MAX_ENTRIES).to_bytes();
-        }
+        Kind::AreaOfPattern => area_of_pattern(random, input),
         Kind::Text | Kind::SpoiltText | Kind::NumberInText | Kind::TextLimit => {
             text::to_be_typed(random, input);
         }
@@ -133,6 +126,13 @@ fn kind(random: &mut Random) -> Kind {
 fn valid_pattern(random: &mut Random, input: &mut Input) {
     input.operation = Operation::Reading;
     input.pattern = patterns::random(random).to_bytes();
+}
+
+/// A pattern whose area is asked for, now and then one with a single node.
+fn area_of_pattern(random: &mut Random, input: &mut Input) {
+    input.operation = Operation::Area;
+    let nodes = if random.once_in(8) { 1 } else { random.between(1, MAX_ENTRIES) };
+    input.pattern = patterns::of_nodes(random, nodes, MAX_ENTRIES).to_bytes();
 }
 
 /// A planned pattern with its own proposal, or a random one with any; the pattern mutated.
