@@ -95,9 +95,9 @@ pub const COMPLETED: [Limit; 30] = [
     ("fork whose second path comes before its first", |it| {
         it.written_with(|entry| entry[0] == 11 && entry[1] > entry[2])
     }),
-    ("something behind a brace", |it| it.has([b"}/", b"}@", b"}?", b"}{"])),
+    ("something behind a brace", |it| it.written() && it.goes_on_behind_a_brace()),
     ("empty first path of a brace with something behind", |it| it.continues_an_empty_path()),
-    ("brace at the end of a brace, with something behind", |it| it.has([b"}}/", b"}}@", b"}}?", b"}}{"])),
+    ("brace at the end of a brace, with something behind", |it| it.written() && it.goes_on_behind(b"}}")),
     ("entry that the text has more than once", |it| it.written() && it.typed.len() < it.items()),
     ("no entry that the text has more than once", |it| {
         it.written() && it.typed.len() == it.items() && it.items() > 9
@@ -115,8 +115,8 @@ pub const JUDGED_TEXT: [Limit; 6] = [
     ("unmet", |it| it.finding == Finding::Unmet),
     ("met, something behind a brace", |it| it.met() && it.goes_on_behind_a_brace()),
     ("unmet, something behind a brace", |it| it.finding == Finding::Unmet && it.goes_on_behind_a_brace()),
-    ("met, a test before the rest of a row", |it| it.met() && it.text().contains(&b'?')),
-    ("met, names used", |it| it.met() && it.text().iter().any(|byte| matches!(byte, b'n' | b'@'))),
+    ("met, tests in the text", |it| it.met() && it.text().contains(&b'?')),
+    ("met, names in the text", |it| it.met() && it.text().iter().any(|byte| matches!(byte, b'n' | b'@'))),
 ];
 
 fn is_comparison(entry: &[u8; 4]) -> bool {
@@ -199,13 +199,14 @@ impl Judged<'_> {
         self.text().iter().filter(|byte| b"pn!(<[/@?{".contains(byte)).count()
     }
 
-    /// Whether one of the parts stands in a text that was written.
-    fn has<const N: usize>(&self, parts: [&[u8]; N]) -> bool {
-        self.written() && parts.iter().any(|part| contains(self.text(), part))
+    fn goes_on_behind_a_brace(&self) -> bool {
+        self.goes_on_behind(b"}")
     }
 
-    fn goes_on_behind_a_brace(&self) -> bool {
-        [b"}/", b"}@", b"}?", b"}{"].iter().any(|part| contains(self.text(), *part))
+    /// Whether a row goes on behind such bytes.
+    fn goes_on_behind(&self, bytes: &[u8]) -> bool {
+        let goes_on = |part: &[u8]| part.starts_with(bytes) && b"/@?{".contains(&part[bytes.len()]);
+        self.text().windows(bytes.len() + 1).any(goes_on)
     }
 
     /// Whether a text was written with a brace that begins with `|` and something behind a brace without braces in it.
@@ -218,8 +219,4 @@ impl Judged<'_> {
                     && end.is_some_and(|end| brace.get(end + 1).is_some_and(|next| b"/@?".contains(next)))
             })
     }
-}
-
-fn contains(text: &[u8], part: &[u8]) -> bool {
-    text.windows(part.len()).any(|window| window == part)
 }

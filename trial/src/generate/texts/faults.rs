@@ -1,12 +1,15 @@
 //! Texts outside the grammar, made of texts that are in it.
 
-use super::{ALPHABET, small};
+use super::small;
 use oracle::random::Random;
 use oracle::typed::{Fault, MAX_TEXT, parse};
 use std::collections::BTreeMap;
 
 /// A text in which everything stands that can.
 const EVERYTHING: &[u8] = b"(!p10&[{?(n2|<1>p0)|@3}/4#0/1{|}])";
+
+/// The bytes that occur in texts of the grammar; of the digits two.
+const ALPHABET: &[u8] = b"pn!(&|)<>[=#]/@?{}01";
 
 /// Bytes that occur in no text of the grammar, beside a sign of a later request.
 const FOREIGN: &[u8] = b"\n \r\t\0Pa-~+\x80\xff";

@@ -14,9 +14,6 @@ use crate::generate::patterns;
 use oracle::random::Random;
 use oracle::typed::spell;
 
-/// The bytes that occur in texts of the grammar; of the digits two.
-pub const ALPHABET: &[u8] = b"pn!(&|)<>[=#]/@?{}01";
-
 /// A text of the grammar: mostly small, now and then that of a random pattern, or a shape.
 pub fn random(random: &mut Random) -> Vec<u8> {
     match random.below(8) {
@@ -34,7 +31,7 @@ pub fn random(random: &mut Random) -> Vec<u8> {
 }
 
 /// A small text of the grammar.
-pub fn small(random: &mut Random) -> Vec<u8> {
+fn small(random: &mut Random) -> Vec<u8> {
     let items = random.between(1, 15);
     tree::text(random, items)
 }
