@@ -67,9 +67,10 @@ impl Area {
         Area::to_write(random, new_length, old_length)
     }
 
-    /// A destination for the pattern file of a text. For a text that is refused, the file would be of any length.
+    /// A destination for the pattern file of a text. For a text that is refused, the file would be of any length, now and
+    /// then of the longest.
     pub fn of_text(random: &mut Random, text: &[u8]) -> Area {
-        let of_refused = random.between(0, PATTERN_LONGEST);
+        let of_refused = if random.once_in(4) { PATTERN_LONGEST } else { random.between(0, PATTERN_LONGEST) };
         let length = type_pattern(text, PATTERN_LONGEST).map_or(of_refused, |file| file.len());
         Area::to_write(random, length, PATTERN_LONGEST)
     }

@@ -63,7 +63,7 @@ pub fn misplace(random: &mut Random) -> Vec<u8> {
     }
     let group = random.below(places.len());
     let place = random.pick(places.values().nth(group).expect("there are more"));
-    match random.below(8) {
+    match random.below(9) {
         0 | 1 => text.truncate(place),
         2 => {
             text.truncate(place);
@@ -72,6 +72,7 @@ pub fn misplace(random: &mut Random) -> Vec<u8> {
         3 if place < text.len() => text[place] = random.pick(b"0123456789"),
         4 => text.insert(place, foreign(random)),
         5 if place < text.len() => text[place] = b'\n',
+        6 => text.insert(place, random.pick(b"&|")),
         _ => text.insert(place, stray(random)),
     }
     text
