@@ -53,5 +53,8 @@ pub fn type_read(read: &[u8], file: &mut [u8; FILE_BYTES], line: &mut [u8; LINE_
 {
     let finding = type_pattern(without_line_feed(read), file);
     let end = line::fill(type_report(finding), line);
-    Typed { file: file_length(finding), line: end }
+    Typed {
+        file: file_length(finding),
+        line: end,
+    }
 }
