@@ -1,10 +1,10 @@
-/* Judges nothing at all from C, and puts nothing in order: a pointer may be NULL where its length is 0, and no bytes
- * are no pattern and no model. */
+/* Judges nothing at all from C, puts nothing in order and reads nothing typed: a pointer may be NULL where its length is
+ * 0, and no bytes are no pattern, no model and no text. */
 #include "riser.h"
 
 #include <stdio.h>
 
-/* Whether the answer is the refusal of a file without its mark, by this number; if not, names the function. */
+/* Whether the answer is the refusal of no bytes, by this number; if not, names the function. */
 static int refuses(const char *function, uint64_t answer, unsigned number)
 {
     if (riser_kind(answer) == RISER_REFUSED && riser_part(answer, 0) == number)
@@ -20,8 +20,9 @@ int main(void)
     int model = refuses("riser_judge_model", riser_judge_model(NULL, 0, NULL, 0, NULL, 0), 1);
     int tableau = refuses("riser_judge_tableau", riser_judge_tableau(NULL, 0, NULL, 0, NULL, 0), 1);
     int order = refuses("riser_order", riser_order(NULL, 0, NULL, 0), 10);
+    int type = refuses("riser_type", riser_type(NULL, 0, NULL, 0), 30);
     size_t area = riser_model_area(NULL, 0);
     if (area != 0)
         fprintf(stderr, "empty: riser_model_area answered %zu for no bytes\n", area);
-    return read && model && tableau && order && area == 0 ? 0 : 1;
+    return read && model && tableau && order && type && area == 0 ? 0 : 1;
 }

@@ -2,11 +2,12 @@
  *
  * Each function takes any bytes of any length and answers one number: riser_model_area a number of bytes,
  * the others a packed finding. A pointer may be anything, NULL included, where its length is 0. The working
- * area must overlap neither of the other byte strings, and the destination must not overlap the old file.
- * Nothing outside the given lengths is read or written.
+ * area must overlap neither of the other byte strings, and the destination must not overlap the old file or
+ * the text. Nothing outside the given lengths is read or written.
  *
  * Stack that was enough on the deepest inputs: 2.5 KB for reading and for riser_model_area, 60 KB for judging
- * a model, 16 KB for judging a tableau, 4.5 KB for putting a model in order. 64 KB are enough for all. */
+ * a model, 16 KB for judging a tableau, 4.5 KB for putting a model in order, 32 KB for a typed pattern. 64 KB
+ * are enough for all. */
 #ifndef RISER_H
 #define RISER_H
 
@@ -24,6 +25,11 @@ extern "C" {
 
 /* The bytes of the longest model file: a destination of so many is enough for putting any model in order. */
 #define RISER_MODEL_LONGEST 13321
+
+/* The bytes of the longest text that is read into a pattern file, and of the longest pattern file: a
+ * destination of so many is enough for any typed pattern. */
+#define RISER_TEXT_LONGEST 1024
+#define RISER_PATTERN_LONGEST 1026
 
 /* What an answer is: its lowest 4 bits. The numbers that go with it are its parts, in this order. */
 enum riser_kind {
@@ -71,6 +77,16 @@ uint64_t riser_judge_tableau(const uint8_t *pattern, size_t pattern_length, cons
  * comes out as it was. 29 says that the destination is shorter than the new file, which may be shorter than
  * the old one; RISER_MODEL_LONGEST bytes, or as many as the old file has, are always enough. */
 uint64_t riser_order(const uint8_t *old, size_t old_length, uint8_t *destination, size_t destination_length);
+
+/* Reads a typed pattern, such as (p0&!<1>n2), into a pattern file: RISER_WRITTEN, or RISER_REFUSED with number
+ * 30 to 32, which leaves the destination unchanged. The file is in the first bytes of the destination, as many
+ * as its length says, and the bytes beyond are unchanged; at every node of every model it holds where the text
+ * does. 30 says that the text has over RISER_TEXT_LONGEST bytes, with place 0, or is outside the grammar, with
+ * the place of the first byte, or of the end, that no text could have there; a newline at the end is such a
+ * byte. 31 says that a number is out of range, with the place of the first digit of the first such number. 32
+ * says that there are over 255 different entries, or that the destination is shorter than the file;
+ * RISER_PATTERN_LONGEST bytes are always enough. */
+uint64_t riser_type(const uint8_t *text, size_t text_length, uint8_t *destination, size_t destination_length);
 
 #ifdef __cplusplus
 }

@@ -23,7 +23,7 @@ pub enum Finding {
         forks: u16,
         most: u16,
     },
-    /// Putting a model in order: the length of the new file.
+    /// Putting a model in order, or typing a pattern: the length of the new file.
     Written {
         length: u16,
     },

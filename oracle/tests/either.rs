@@ -12,15 +12,16 @@ use oracle::planner::impossible::both_ways;
 use oracle::planner::{Effort, Plan, plan};
 use oracle::random::Random;
 use oracle::tableau::Tableau;
+use oracle::typed::spell;
 
 /// A tableau of p0 or p1, and not (p1 or p0).
 const EXPLAINED: &str = "
-  [0] n9 has ((p0 | p1) & !(p1 | p0))
+  [0] n9 has ((p0|p1)&!(p1|p0))
 step 0: rule 2 (has both), P 0
-  [1] n9 has (p0 | p1)
-  [2] n9 has !(p1 | p0)
+  [1] n9 has (p0|p1)
+  [2] n9 has !(p1|p0)
 step 1: rule 1 (not), P 2
-  [3] n9 lacks (p1 | p0)
+  [3] n9 lacks (p1|p0)
 step 2: rule 25 (lacks either), P 3
   [4] n9 lacks p1
   [5] n9 lacks p0
@@ -36,10 +37,10 @@ right of step 3:
 
 Rules used:
   rule 1 (not): P has/lacks !f: lacks/has f
-  rule 2 (has both): P has (f & g): has f, then has g
+  rule 2 (has both): P has (f&g): has f, then has g
   rule 21 (clash of signs): P and Q alike but for sign: clash
-  rule 24 (has either): P has (f | g): fork, has f or has g
-  rule 25 (lacks either): P lacks (f | g): lacks f, then lacks g
+  rule 24 (has either): P has (f|g): fork, has f or has g
+  rule 25 (lacks either): P lacks (f|g): lacks f, then lacks g
 
 Finding: closed 6 2 1 7. ";
 
@@ -52,7 +53,7 @@ fn either_is_explained() {
     assert!(text.contains(EXPLAINED), "{text}");
 
     let two_nodes = model(&[(1, [0; 4]), (2, [0; 4])], &[], &[]);
-    let holding = "  e2 (p0 | p1): every node\n  e3 (p1 | p0): every node\n  e4 !(p1 | p0): nowhere\n";
+    let holding = "  e2 (p0|p1): every node\n  e3 (p1|p0): every node\n  e4 !(p1|p0): nowhere\n";
     let text = explain(&pattern(&entries), &two_nodes);
     assert!(text.contains(holding), "{text}");
 }
@@ -60,44 +61,20 @@ fn either_is_explained() {
 /// Patterns that can't occur, and what is found of the tableaux that `plan` writes of them: steps, clashes, forks and
 /// most lines, with either as shown, and with three nots and a both in the place of every either.
 const TABLE: [[&str; 3]; 10] = [
-    ["(p31 & !(p0 | p31))", "closed 4 1 0 6", "closed 6 1 0 8"],
-    ["((((p0 | p31) & (p0 | !p31)) & (!p0 | p31)) & (!p0 | !p31))", "closed 19 6 5 12", "closed 22 6 5 16"],
-    ["(((p0 | p31) | p16) & !(p0 | (p31 | p16)))", "closed 9 3 2 10", "closed 15 3 2 16"],
-    [
-        "((((n7 | n50) & !p0) & [@n7?p0 = @n7 on c0]) & [@n50?p0 = @n50 on c0])",
-        "closed 17 2 1 19",
-        "closed 20 2 1 21",
-    ],
-    ["((<a0><a5>(p0 | p31) & !<a0><a5>p0) & !<a0><a5>p31)", "closed 13 2 1 16", "closed 16 2 1 18"],
-    ["(<a0>p31 & !<a0>(p0 | p31))", "closed 6 1 0 9", "closed 8 1 0 11"],
-    [
-        "(([/a0?(p0 | p31) != . on c1] & ![/a0?p0 != . on c1]) & ![/a0?p31 != . on c1])",
-        "closed 18 4 3 19",
-        "closed 21 4 3 21",
-    ],
-    ["(p0 & ![?(p0 | p31) = . on c3])", "closed 8 2 1 8", "closed 10 2 1 10"],
-    [
-        "([{/a0 | /a5} = . on c2] & !([/a0 = . on c2] | [/a5 = . on c2]))",
-        "closed 9 2 1 10",
-        "closed 12 2 1 13",
-    ],
-    [
-        "((([. = @n7 on c0] | [. = @n50 on c0]) & [. != @n7 on c0]) & [. != @n50 on c0])",
-        "closed 21 2 1 17",
-        "closed 22 2 1 19",
-    ],
+    ["(p31&!(p0|p31))", "closed 4 1 0 6", "closed 6 1 0 8"],
+    ["((((p0|p31)&(p0|!p31))&(!p0|p31))&(!p0|!p31))", "closed 19 6 5 12", "closed 22 6 5 16"],
+    ["(((p0|p31)|p16)&!(p0|(p31|p16)))", "closed 9 3 2 10", "closed 15 3 2 16"],
+    ["((((n7|n50)&!p0)&[@7?p0=0@7])&[@50?p0=0@50])", "closed 17 2 1 19", "closed 20 2 1 21"],
+    ["((<0><5>(p0|p31)&!<0><5>p0)&!<0><5>p31)", "closed 13 2 1 16", "closed 16 2 1 18"],
+    ["(<0>p31&!<0>(p0|p31))", "closed 6 1 0 9", "closed 8 1 0 11"],
+    ["(([/0?(p0|p31)#1]&![/0?p0#1])&![/0?p31#1])", "closed 18 4 3 19", "closed 21 4 3 21"],
+    ["(p0&![?(p0|p31)=3])", "closed 8 2 1 8", "closed 10 2 1 10"],
+    ["([{/0|/5}=2]&!([/0=2]|[/5=2]))", "closed 9 2 1 10", "closed 12 2 1 13"],
+    ["((([=0@7]|[=0@50])&[#0@7])&[#0@50])", "closed 21 2 1 17", "closed 22 2 1 19"],
 ];
 
 /// Has two of the three nots itself, so that they clash as they stand: the only one that is shorter without either.
-const WITH_NOTS_OF_ITS_OWN: [&str; 3] = ["(((p0 | p31) & !p0) & !p31)", "closed 7 2 1 8", "closed 6 2 1 7"];
-
-/// The root written out, its labels replaced by what they stand for.
-fn formula(pattern: &Pattern) -> String {
-    let explained = explain(&pattern.to_bytes(), &[]);
-    let labelled = explained.lines().filter_map(|line| line.trim().split_once(" := "));
-    let root = format!("e{}", pattern.entries.len() - 1);
-    labelled.rev().fold(root, |formula, (label, text)| formula.replace(label, text))
-}
+const WITH_NOTS_OF_ITS_OWN: [&str; 3] = ["(((p0|p31)&!p0)&!p31)", "closed 7 2 1 8", "closed 6 2 1 7"];
 
 /// What judging finds of the planner's tableau, and how many steps that has.
 fn closed(pattern: &Pattern) -> (String, usize) {
@@ -118,7 +95,8 @@ fn tableaux_are_shorter_with_either() {
     for (row, pattern) in table.zip(patterns) {
         let ((with_either, steps), (with_nots, more)) =
             (closed(&pattern.with_either), closed(&pattern.with_nots));
-        assert_eq!([formula(&pattern.with_either), with_either, with_nots], row);
+        let text = spell(&pattern.with_either).expect("a short text");
+        assert_eq!([text, with_either, with_nots], row);
         assert_eq!(steps < more, row != WITH_NOTS_OF_ITS_OWN, "{row:?}");
     }
 }

@@ -9,9 +9,9 @@ use std::path::{Path, PathBuf};
 use std::process::{Command, Output};
 
 const NOTATION: &str = "\
-Notation: pN property, nN name, !f not, (f & g) both, (f | g) either, <aN>f after on axis N,
-[x = y on cN] same and [x != y on cN] differ on channel N; paths: /aN step, @nN jump, ?f test,
-{x | y} fork, . end of path; eN the entry of that number
+Notation: pN property, nN name, !f not, (f&g) both, (f|g) either, <N>f after on axis N,
+[x=Ny] same and [x#Ny] differ on channel N; paths: /N step, @N jump to name N, ?f test,
+{x|y} fork, nothing the end of path; eN the entry of that number, which can't be typed
 ";
 
 /// What is said after the pattern and its notation.
@@ -32,22 +32,23 @@ fn reading_a() {
     let expected = format!(
         "\
 Pattern of 4 entries, the root is e3:
-  e3 := (<a0>p0 & !<a0>p0)
+  e3 := (<0>p0&!<0>p0)
+Typed: (<0>p0&!<0>p0)
 Judging a model wants 32 bytes of working area: 4 node entries, 8 bytes each.
 {NOTATION}
 Tableau of 3 steps, start name n0 ([N] is line N of its branch; barred: no ends compare so):
-  [0] n0 has (<a0>p0 & !<a0>p0)
+  [0] n0 has (<0>p0&!<0>p0)
 step 0: rule 2 (has both), P 0
-  [1] n0 has <a0>p0
-  [2] n0 has !<a0>p0
+  [1] n0 has <0>p0
+  [2] n0 has !<0>p0
 step 1: rule 1 (not), P 2
-  [3] n0 lacks <a0>p0
+  [3] n0 lacks <0>p0
 step 2: rule 21 (clash of signs), P 1, Q 3
-  CLASH: [1] n0 has <a0>p0 against [3] n0 lacks <a0>p0
+  CLASH: [1] n0 has <0>p0 against [3] n0 lacks <0>p0
 
 Rules used:
   rule 1 (not): P has/lacks !f: lacks/has f
-  rule 2 (has both): P has (f & g): has f, then has g
+  rule 2 (has both): P has (f&g): has f, then has g
   rule 21 (clash of signs): P and Q alike but for sign: clash
 
 Finding: closed 3 1 0 4. Every branch ends in a clash: no model meets the pattern.
@@ -79,14 +80,14 @@ right of step 3:
 fn reading_g() {
     let expected = "
 Model of 4 nodes, 0 names, 3 edges:
-  node 0: values 0 0 0 0; a0 to 1; a1 to 2 3
+  node 0: values 0 0 0 0; axis 0 to 1; axis 1 to 2 3
   node 1: values 10 0 0 0
   node 2: values 10 0 0 0
   node 3: values 20 0 0 0
 Where the node entries hold:
-  e2 [/a0 = /a1 on c0]: node 0
-  e3 [/a0 != /a1 on c0]: node 0
-  e4 (the root) ([/a0 = /a1 on c0] & [/a0 != /a1 on c0]): node 0
+  e2 [/0=0/1]: node 0
+  e3 [/0#0/1]: node 0
+  e4 (the root) ([/0=0/1]&[/0#0/1]): node 0
 
 Finding: met 0 1. The root holds at 1 node, the lowest is node 0.
 ";
@@ -116,19 +117,19 @@ fn a_model_with_everything() {
     );
     let expected = "
 Model of 2 nodes, 3 names, 4 edges:
-  node 0: p0 p2; values 1 2 3 4; named n3; a1 to 0 1; a6 to 1
-  node 1: p31; values 0 0 0 65535; named n4 n77; a7 to 0
+  node 0: p0 p2; values 1 2 3 4; named n3; axis 1 to 0 1; axis 6 to 1
+  node 1: p31; values 0 0 0 65535; named n4 n77; axis 7 to 0
 Where the node entries hold:
   e0 n3: node 0
   e2 p0: node 0
-  e3 <a1>p0: node 0
-  e4 !<a1>p0: node 1
-  e5 (the root) (<a1>p0 & !<a1>p0): nowhere
+  e3 <1>p0: node 0
+  e4 !<1>p0: node 1
+  e5 (the root) (<1>p0&!<1>p0): nowhere
 
 Finding: unmet. The root holds at no node of this model.
 ";
     assert_eq!(judgement(&pattern(&entries), &proposal), expected);
-    let unreached = "  e0 := n3   (the root doesn't reach it)\n  e1 := @n4   (the root doesn't reach it)\n";
+    let unreached = "  e0 := n3   (the root doesn't reach it)\n  e1 := @4   (the root doesn't reach it)\n";
     assert!(explain(&pattern(&entries), &proposal).contains(unreached));
 }
 
@@ -148,21 +149,21 @@ fn lines_of_every_form() {
     let begin = [(2, 0, 0, 0), (1, 1, 0, 0), (7, 3, 0, 0), (5, 2, 0, 1)];
     let end = [(13, 4, 0, 0), (4, 6, 0, 0), (18, 9, 0, 3), (19, 9, 5, 1)];
     let expected = "
-  [3] n0 lacks [{?n9@n9/a2 | .} != /a2 on c1]
+  [3] n0 lacks [{?n9@9/2|}#1/2]
 step 2: rule 7 (comparison), P 3
-  [4] barred (n0, {?n9@n9/a2 | .}) != (n0, /a2) on c1
+  [4] barred (n0, {?n9@9/2|}) #1 (n0, /2)
 step 3: rule 5 (has after), P 2, fresh name n1
-  [5] a3 leads from n0 to n1
+  [5] axis 3 leads from n0 to n1
   [6] n1 has n9
 step 4: rule 13 (barred fork), P 4
-  [7] barred (n0, ?n9@n9/a2) != (n0, /a2) on c1
-  [8] barred (n0, .) != (n0, /a2) on c1
+  [7] barred (n0, ?n9@9/2) #1 (n0, /2)
+  [8] barred (n0, end) #1 (n0, /2)
 step 5: rule 4 (name), P 6
   [9] n1 is n9
-step 6: rule 18 (same data), P 9, channel c3
-  [10] (n1, .) = (n9, .) on c3
+step 6: rule 18 (same data), P 9, channel 3
+  [10] (n1, end) =3 (n9, end)
 step 7: rule 19 (replace), P 9, Q 5, place 1
-  [11] a3 leads from n0 to n9
+  [11] axis 3 leads from n0 to n9
 ";
     let text = judgement(&pattern(&entries), &tableau(0, &[begin, end].concat()));
     assert!(text.contains(expected), "{text}");
@@ -231,7 +232,7 @@ fn a_name_that_is_not_listed() {
     let removed = model(&[plain(0), plain(1)], &[[5, 1], [3, 0]], &[[0, 2, 1]]);
     let expected = "
 Model of 2 nodes, 2 names, 1 edge:
-  node 0: values 0 0 0 0; named n3; a2 to 1
+  node 0: values 0 0 0 0; named n3; axis 2 to 1
   node 1: values 1 0 0 0; named n5
 
 Finding: refused 27 6, name n6: the pattern uses it and the model doesn't list it (was its meter removed?).
@@ -315,18 +316,18 @@ fn refused_steps_stand_after_the_tree_so_far() {
     let a = pattern(&ENTRIES_A);
     let text = judgement(&a, &tableau(0, &[(2, 0, 0, 0), (21, 1, 2, 0), (1, 2, 0, 0)]));
     let expected = "
-  [0] n0 has (<a0>p0 & !<a0>p0)
+  [0] n0 has (<0>p0&!<0>p0)
 step 0: rule 2 (has both), P 0
-  [1] n0 has <a0>p0
-  [2] n0 has !<a0>p0
+  [1] n0 has <0>p0
+  [2] n0 has !<0>p0
 
 Rules used:
-  rule 2 (has both): P has (f & g): has f, then has g
+  rule 2 (has both): P has (f&g): has f, then has g
 
 Finding: refused 21 1, step 1: the lines or the argument don't fit the rule.
 The step is rule 21, P 1, Q 2, argument 0.
-P is [1] n0 has <a0>p0.
-Q is [2] n0 has !<a0>p0.
+P is [1] n0 has <0>p0.
+Q is [2] n0 has !<0>p0.
 Rule 21 (clash of signs) says: P and Q alike but for sign: clash.
 ";
     assert!(text.ends_with(expected), "{text}");
@@ -337,7 +338,7 @@ Rule 21 (clash of signs) says: P and Q alike but for sign: clash.
     assert_eq!(
         finding(&a, &tableau(0, &[(2, 0, 0, 0), (5, 1, 0, 0)])),
         "Finding: refused 22 1, step 1: the name isn't fresh.\nThe step is rule 5, P 1, Q 0, argument 0.\n\
-         n0 stands on [0] n0 has (<a0>p0 & !<a0>p0).\n"
+         n0 stands on [0] n0 has (<0>p0&!<0>p0).\n"
     );
     assert_eq!(
         finding(&a, &tableau(0, &STEPS_A[..2])),
@@ -362,8 +363,9 @@ fn a_shared_formula_is_written_once() {
     let mut entries = vec![[1, 0, 0, 0]];
     entries.extend((0..254).map(|below| [4, below, below, 0]));
     let text = explain(&pattern(&entries), &model_g());
-    assert!(text.contains("  e254 := (e253 & e253)\n"));
-    assert!(text.contains("  e254 (the root) (e253 & e253): nowhere\n"));
+    assert!(text.contains("  e254 := (e253&e253)\n"));
+    assert!(text.contains("  e254 (the root) (e253&e253): nowhere\n"));
+    assert!(text.contains("\nToo long to type: its text has over 1024 bytes.\n"));
     assert!(text.len() < 20_000);
 }
 
@@ -373,15 +375,18 @@ fn a_long_formula_is_written_in_pieces() {
     entries.extend((0..254).map(|below| [3, below, 0, 0]));
     let text = explain(&pattern(&entries), &model_g());
     assert!(text.contains(&format!("\n  e29 := {}p0\n  e57 := {}e29\n", "!".repeat(29), "!".repeat(28))));
-    assert!(text.lines().all(|line| line.len() < 120));
+    assert!(text.lines().all(|line| line.len() < 120 || line.starts_with("Typed: !!")));
 
     let mut entries = vec![[8, 1, 255, 0]];
     entries.extend((0..29).map(|below| [8, 1, below, 0]));
     entries.push([6, 0, 29, 255]);
     let text = explain(&pattern(&entries), &model_g());
-    let (eleven, nine) = ("/a1".repeat(11), "/a1".repeat(9));
-    assert!(text.contains(&format!("\n  e10 := {eleven}\n  e19 := {nine} e10\n")), "{text}");
-    assert!(text.contains("\n  e30 := [/a1 e28 = . on c0]\n"), "{text}");
+    let (sixteen, fourteen) = ("/1".repeat(16), "/1".repeat(14));
+    assert!(text.contains(&format!("\n  e15 := {sixteen}\n  e29 := {fourteen} e15\n")), "{text}");
+    assert!(text.contains("\n  e30 := [e29=0]\n"), "{text}");
+    entries[30] = [7, 2, 255, 29];
+    let text = explain(&pattern(&entries), &model_g());
+    assert!(text.contains("\n  e30 := [#2 e29]\n"), "{text}");
 }
 
 /// Seeded noise (xorshift).
@@ -453,9 +458,12 @@ fn the_tool_names_a_file_that_it_cannot_read() {
 #[test]
 fn the_tool_refuses_wrong_arguments() {
     let one = Path::new("one");
-    for arguments in [&[][..], &[one], &[one, one, one]] {
+    for arguments in [&[][..], &[one], &[one, one, one], &[Path::new("--one"), one]] {
         let output = run(arguments);
         assert_eq!(output.status.code(), Some(2));
-        assert_eq!(String::from_utf8(output.stderr).unwrap(), "usage: explain pattern.bin proposal.bin\n");
+        assert_eq!(
+            String::from_utf8(output.stderr).unwrap(),
+            "usage: explain (PATTERN | -e TEXT | --text FILE) PROPOSAL\n"
+        );
     }
 }

@@ -5,6 +5,7 @@ mod common;
 
 use common::directory::Directory;
 use common::output::{run_full, run_unread};
+use common::tool::{check_failure, check_success, printed};
 use common::{model, model_g, plain};
 use std::ffi::OsStr;
 use std::fs::{self, OpenOptions, Permissions};
@@ -16,24 +17,6 @@ const ORDER: &str = env!("CARGO_BIN_EXE_order");
 
 fn run(arguments: &[impl AsRef<OsStr>]) -> Output {
     Command::new(ORDER).args(arguments).output().expect("the tool runs")
-}
-
-fn text(bytes: &[u8]) -> String {
-    String::from_utf8_lossy(bytes).into_owned()
-}
-
-/// Checks that the tool succeeds and says this.
-fn check_success(output: &Output, said: &str) {
-    assert_eq!(text(&output.stderr), "");
-    assert_eq!(output.status.code(), Some(0));
-    assert_eq!(text(&output.stdout), format!("{said}\n"));
-}
-
-/// Checks that the tool fails with this status and message.
-fn check_failure(output: &Output, status: i32, message: &str) {
-    assert_eq!(text(&output.stderr), format!("{message}\n"));
-    assert_eq!(output.status.code(), Some(status));
-    assert_eq!(text(&output.stdout), "");
 }
 
 fn bytes(file: &Path) -> Vec<u8> {
@@ -288,8 +271,8 @@ fn bad_arguments_give_the_usage() {
 fn help_is_printed() {
     for arguments in [&["--help"][..], &["old", "--help"]] {
         let output = run(arguments);
-        assert_eq!((output.status.code(), text(&output.stderr)), (Some(0), String::new()));
-        let help = text(&output.stdout);
+        assert_eq!((output.status.code(), printed(&output.stderr)), (Some(0), String::new()));
+        let help = printed(&output.stdout);
         assert!(help.starts_with("usage: order [--over] OLD NEW\nWrites NEW from OLD"), "{help}");
         assert!(help.contains("--over "), "{help}");
     }
@@ -305,7 +288,7 @@ fn an_output_that_nobody_reads_or_that_is_full_is_no_failure() {
         let (_directory, old, new) = prepared("order-output", &old_bytes);
         let output = run(ORDER, &[&old, &new].map(|file| file.to_str().expect("text")));
         assert_eq!(output.status.code(), Some(0));
-        let message = text(&output.stderr);
+        let message = printed(&output.stderr);
         assert!(message.starts_with(said) && message.is_empty() == said.is_empty(), "{message}");
         assert_eq!(bytes(&new), new_bytes);
     }

@@ -43,6 +43,8 @@ fn bad_arguments_give_the_usage() {
     }
     check_usage(PROGRAMS, &[""; 0], "usage: programs");
     check_usage(PROGRAMS, &["a", "b", "c"], "usage: programs");
+    check_usage(PROGRAMS, &["--typist"], "programs --typist PROGRAM");
+    check_usage(PROGRAMS, &["--typist", "a", "b"], "programs --typist PROGRAM");
     check_usage(BENCHMARK, &["x"], "no group is called \"x\"\nusage: benchmark");
 }
 
@@ -144,6 +146,16 @@ fn a_pattern_whose_area_is_asked_for_is_shown_in_full() {
 }
 
 #[test]
+fn a_text_is_shown_in_full() {
+    let beginnings = ["operation   typing a pattern", "text        ", "as typed    ", "destination "];
+    let shown = shown_of(Operation::Typing, beginnings);
+    assert!(
+        !shown.lines().any(|line| line.starts_with("pattern") || line.starts_with("proposal")),
+        "{shown}"
+    );
+}
+
+#[test]
 fn a_run_that_is_too_short_says_what_never_occurred() {
     let output = run(DIFFERENTIAL, &["--count", "10"]);
     assert_eq!(output.status.code(), Some(1));
@@ -163,6 +175,18 @@ fn a_program_that_prints_something_else_fails() {
     let output = run(PROGRAMS, &[OTHER]);
     assert_eq!(output.status.code(), Some(1));
     assert!(text(&output.stderr).contains("pattern.bin missing, proposal.bin missing"));
+}
+
+#[test]
+fn a_typist_that_prints_something_else_fails() {
+    let output = run(PROGRAMS, &["--typist", OTHER]);
+    assert_eq!(output.status.code(), Some(1));
+    let said = text(&output.stdout);
+    assert!(said.starts_with("programs: 300 texts generated, 278 odd ones, 7 in pieces\n"), "{said}");
+    assert!(said.ends_with("programs: 585 texts, 585 typed otherwise than expected\n"), "{said}");
+    assert!(text(&output.stderr).contains("programs: no text: "));
+    let missing = run(PROGRAMS, &["--typist", "no/such/program"]);
+    assert!(text(&missing.stderr).starts_with("programs: no/such/program: "));
 }
 
 #[test]

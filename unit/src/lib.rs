@@ -9,7 +9,7 @@
 //! ```
 //!
 //! Stack that was enough on the deepest inputs: 2.5 KB for reading and for `model_area`, 60 KB for judging a model,
-//! 16 KB for judging a tableau, 4.5 KB for putting a model in order. 64 KB are enough for all.
+//! 16 KB for judging a tableau, 4.5 KB for putting a model in order, 32 KB for a typed pattern. 64 KB are enough for all.
 
 use std::fmt;
 
@@ -23,7 +23,13 @@ pub const TABLEAU_AREA: usize = 8192;
 /// The bytes of the longest model file: a destination of so many is enough for putting any model in order.
 pub const MODEL_LONGEST: usize = 13_321;
 
-/// A finding of any of the four operations, or a refusal with its number and place.
+/// The bytes of the longest text that is read into a pattern file.
+pub const TEXT_LONGEST: usize = 1024;
+
+/// The bytes of the longest pattern file: a destination of so many is enough for any typed pattern.
+pub const PATTERN_LONGEST: usize = 1026;
+
+/// A finding of any of the operations, or a refusal with its number and place.
 #[derive(Clone, Copy, Debug, PartialEq, Eq)]
 pub enum Finding {
     /// Reading a pattern: the number of its entries.
@@ -34,7 +40,7 @@ pub enum Finding {
     Unmet,
     /// Judging a tableau: the counts of steps, clashes and forks, and the most lines on a branch.
     Closed { steps: u16, clashes: u16, forks: u16, most: u16 },
-    /// Putting a model in order: the length of the new file.
+    /// Putting a model in order, or typing a pattern: the length of the new file.
     Written { length: u16 },
     /// Refused: the number and the place.
     Refused { number: u16, place: u16 },
@@ -63,6 +69,12 @@ mod linked {
         pub fn riser_order(
             old: *const u8,
             old_length: usize,
+            destination: *mut u8,
+            destination_length: usize,
+        ) -> u64;
+        pub fn riser_type(
+            text: *const u8,
+            text_length: usize,
             destination: *mut u8,
             destination_length: usize,
         ) -> u64;
@@ -126,6 +138,20 @@ pub fn order(old: &[u8], destination: &mut [u8]) -> Finding {
     // borrowed for writing and so doesn't overlap the old file.
     unpacked(unsafe {
         linked::riser_order(old.as_ptr(), old.len(), destination.as_mut_ptr(), destination.len())
+    })
+}
+
+/// Reads a typed pattern, such as `(p0&!<1>n2)`, into a pattern file, which holds at a node of a model where the text
+/// does. It is in the first bytes of the destination, whose other bytes stay; a refusal leaves all of them: 30 for a
+/// text that has over `TEXT_LONGEST` bytes, with place 0, or is outside the grammar, with the place of the first byte,
+/// or of the end, that no text could have there; 31 for the first number out of range, with the place of its first
+/// digit; 32 for over 255 different entries, or a destination shorter than the file. `PATTERN_LONGEST` bytes of
+/// destination are enough.
+pub fn type_pattern(text: &[u8], destination: &mut [u8]) -> Finding {
+    // SAFETY: the text is readable, and the destination writable, for their lengths; the destination is
+    // borrowed for writing and so doesn't overlap the text.
+    unpacked(unsafe {
+        linked::riser_type(text.as_ptr(), text.len(), destination.as_mut_ptr(), destination.len())
     })
 }
 

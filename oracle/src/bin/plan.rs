@@ -1,63 +1,79 @@
-//! `plan pattern.bin proposal.bin`: searches for a closed tableau, or for a small model that meets the
+//! `plan PATTERN PROPOSAL`: searches for a closed tableau, or for a small model that meets the
 //! pattern, and writes it as a proposal.
 
 use std::ffi::OsString;
 use std::io;
-use std::path::{Path, PathBuf};
+use std::path::PathBuf;
 use std::process::ExitCode;
 
 use oracle::explain;
-use oracle::pattern::{self, Pattern};
+use oracle::pattern::{self, LONGEST, Pattern};
 use oracle::planner::{Effort, Plan, plan};
-use oracle::tool::{self, counted, target};
+use oracle::tool::given::{Given, Words};
+use oracle::tool::{self, Tool, counted, target};
+use oracle::typed::type_pattern;
 
-const USAGE: &str = "usage: plan [--budget N] [--seed N] PATTERN PROPOSAL";
+const TOOL: Tool = Tool {
+    name: "plan",
+    usage: "usage: plan [--budget N] [--seed N] (PATTERN | -e TEXT | --text FILE) PROPOSAL",
+    help: "\
+Searches for a closed tableau, and for a small model that meets the pattern, and writes
+what it finds to PROPOSAL, whole or not at all.
+
+  -e TEXT       take the typed pattern TEXT, not a pattern file
+  --text FILE   take the typed pattern in FILE, or on standard input if FILE is -; a
+                line feed at its end is no part of it
+  --budget N    how long it tries, 100000 if not said
+  --seed N      settles the order of what is equally good
+  --help        print this
+
+Exit status: 0 if PROPOSAL is there; 1, with a message, if a file can't be read or
+written, the pattern is refused or nothing was found; 2 for other arguments.
+",
+};
 const BUDGET: usize = 100_000;
 
 /// What was asked for.
 struct Arguments {
-    pattern: PathBuf,
+    pattern: Given,
     proposal: PathBuf,
     effort: Effort,
 }
 
 fn main() -> ExitCode {
-    let Some(arguments) = arguments(std::env::args_os().skip(1)) else {
-        eprintln!("{USAGE}");
-        return ExitCode::from(2);
-    };
-    tool::status("plan", run(&arguments))
+    TOOL.start(arguments, run)
 }
 
-/// `None` if they aren't two files and options.
+/// `None` if they aren't a pattern, a proposal and options.
 fn arguments(mut words: impl Iterator<Item = OsString>) -> Option<Arguments> {
-    let mut files = Vec::new();
+    let mut named = Words::default();
     let mut effort = Effort { budget: BUDGET, seed: 0 };
     while let Some(word) = words.next() {
         let mut number = || words.next()?.to_str()?.parse::<u64>().ok();
         match word.to_str() {
             Some("--budget") => effort.budget = usize::try_from(number()?).ok()?,
             Some("--seed") => effort.seed = number()?,
-            Some(option) if option.starts_with('-') => return None,
-            _ => files.push(PathBuf::from(word)),
+            _ => named.take(word, &mut words)?,
         }
     }
-    let [pattern, proposal] = <[PathBuf; 2]>::try_from(files).ok()?;
+    let (pattern, proposal) = named.pattern_and_proposal()?;
     Some(Arguments { pattern, proposal, effort })
 }
 
 /// Writes what the search finds, and says what it is.
 fn run(arguments: &Arguments) -> Result<bool, String> {
-    let Arguments { pattern: file, proposal, effort } = arguments;
+    let Arguments { pattern: given, proposal, effort } = arguments;
     let unwritable = |error| format!("{}: can't be written: {error}", proposal.display());
-    let pattern = read_pattern(file)?;
+    let pattern = read_pattern(given)?;
     let target = target::find(proposal).map_err(unwritable)?;
-    if target.is(file).map_err(unwritable)? {
+    if let Some(file) = given.file()
+        && target.is(file).map_err(unwritable)?
+    {
         return Err(unwritable(io::Error::other("it is the pattern")));
     }
     target.allows().map_err(unwritable)?;
     let Some(plan) = plan(&pattern, *effort) else {
-        return Err(format!("{}: nothing found within a budget of {}", file.display(), effort.budget));
+        return Err(format!("{}: nothing found within a budget of {}", given.name(), effort.budget));
     };
     let (bytes, written) = match plan {
         Plan::Tableau(tableau) => {
@@ -66,11 +82,18 @@ fn run(arguments: &Arguments) -> Result<bool, String> {
         Plan::Model(model) => (model.to_bytes(), format!("model, {}", counted(model.nodes.len(), "node"))),
     };
     target.put(&bytes).map_err(unwritable)?;
-    tool::tell("plan", &written);
+    tool::tell(TOOL.name, &written);
     Ok(true)
 }
 
-fn read_pattern(file: &Path) -> Result<Pattern, String> {
-    pattern::parse(&tool::read(file)?)
-        .map_err(|refusal| format!("{}: {}", file.display(), explain::refused(refusal)))
+fn read_pattern(given: &Given) -> Result<Pattern, String> {
+    let named = |words: String| format!("{}: {words}", given.name());
+    let bytes = match given {
+        Given::File(file) => tool::read(file)?,
+        Given::Text(text) => {
+            let text = text.read()?;
+            type_pattern(&text, LONGEST).map_err(|refusal| named(explain::text_refused(&text, refusal)))?
+        }
+    };
+    pattern::parse(&bytes).map_err(|refusal| named(explain::refused(refusal)))
 }

@@ -1,12 +1,14 @@
-//! A pattern as a formula.
+//! A pattern as a formula, in the notation in which patterns are typed.
 //!
 //! Entries are shared, so a formula written out in full could be of exponential length. Each entry is written
 //! once, in terms of the labels e0, e1, ... of earlier ones; an entry is written inside another only if its text
-//! is tiny, or if that is its one use and its text is short.
+//! is tiny, or if that is its one use and its text is short. Below them stands the text that can be typed, which
+//! has no labels.
 
 use super::wording::count;
 use crate::model::area;
-use crate::pattern::{Comparison, Entry, Path, Pattern};
+use crate::pattern::{Entry, LONGEST, Path, Pattern};
+use crate::typed::{MAX_TEXT, sign, spell, type_pattern};
 use std::fmt;
 
 /// The longest text, in characters, that is written inside the one entry that refers to it.
@@ -15,9 +17,9 @@ const SHORT: usize = 30;
 const TINY: usize = 8;
 
 const NOTATION: &str = "\
-Notation: pN property, nN name, !f not, (f & g) both, (f | g) either, <aN>f after on axis N,
-[x = y on cN] same and [x != y on cN] differ on channel N; paths: /aN step, @nN jump, ?f test,
-{x | y} fork, . end of path; eN the entry of that number";
+Notation: pN property, nN name, !f not, (f&g) both, (f|g) either, <N>f after on axis N,
+[x=Ny] same and [x#Ny] differ on channel N; paths: /N step, @N jump to name N, ?f test,
+{x|y} fork, nothing the end of path; eN the entry of that number, which can't be typed";
 
 pub struct Formula<'a> {
     pattern: &'a Pattern,
@@ -49,9 +51,9 @@ impl<'a> Formula<'a> {
         &self.texts[entry]
     }
 
-    /// The path's text.
+    /// The path's text, and a word where it has none.
     pub fn path(&self, path: Path) -> &str {
-        path.map_or(".", |entry| self.text(entry))
+        path.map_or("end", |entry| self.text(entry))
     }
 
     /// The root's number.
@@ -64,16 +66,16 @@ impl<'a> Formula<'a> {
             Entry::Property(property) => format!("p{property}"),
             Entry::Name(name) => format!("n{name}"),
             Entry::Not(phi) => format!("!{}", self.mention(phi)),
-            Entry::Both(phi, psi) => format!("({} & {})", self.mention(phi), self.mention(psi)),
-            Entry::After(axis, phi) => format!("<a{axis}>{}", self.mention(phi)),
+            Entry::Both(phi, psi) => format!("({}&{})", self.mention(phi), self.mention(psi)),
+            Entry::After(axis, phi) => format!("<{axis}>{}", self.mention(phi)),
             Entry::Compare(comparison, channel, alpha, beta) => {
-                format!("[{} {} {} on c{channel}]", self.whole(alpha), sign(comparison), self.whole(beta))
+                format!("[{}{}{channel}{}]", self.whole(alpha), sign(comparison), self.rest(beta))
             }
-            Entry::Step(axis, alpha) => format!("/a{axis}{}", self.rest(alpha)),
-            Entry::Jump(name, alpha) => format!("@n{name}{}", self.rest(alpha)),
+            Entry::Step(axis, alpha) => format!("/{axis}{}", self.rest(alpha)),
+            Entry::Jump(name, alpha) => format!("@{name}{}", self.rest(alpha)),
             Entry::Test(phi, alpha) => format!("?{}{}", self.mention(phi), self.rest(alpha)),
-            Entry::Fork(alpha, beta) => format!("{{{} | {}}}", self.whole(alpha), self.whole(beta)),
-            Entry::Either(phi, psi) => format!("({} | {})", self.mention(phi), self.mention(psi)),
+            Entry::Fork(alpha, beta) => format!("{{{}|{}}}", self.whole(alpha), self.whole(beta)),
+            Entry::Either(phi, psi) => format!("({}|{})", self.mention(phi), self.mention(psi)),
         }
     }
 
@@ -82,26 +84,30 @@ impl<'a> Formula<'a> {
         if self.labelled[entry] { format!("e{entry}") } else { self.texts[entry].clone() }
     }
 
-    /// A whole path inside an entry's text.
+    /// A path that begins inside an entry's text: nothing at the end of path.
     fn whole(&self, path: Path) -> String {
-        path.map_or(".".to_string(), |entry| self.mention(entry))
+        path.map_or(String::new(), |entry| self.mention(entry))
     }
 
-    /// The rest of a path after its first part: nothing at the end of path.
+    /// A path behind a number or a node, from which a label is kept apart.
     fn rest(&self, path: Path) -> String {
         match path {
             Some(entry) if self.labelled[entry] => format!(" e{entry}"),
-            Some(entry) => self.texts[entry].clone(),
-            None => String::new(),
+            _ => self.whole(path),
         }
     }
-}
 
-/// How a comparison is written.
-pub fn sign(comparison: Comparison) -> &'static str {
-    match comparison {
-        Comparison::Same => "=",
-        Comparison::Differ => "!=",
+    /// How the pattern is typed, and whether that gives another file.
+    fn typed(&self) -> String {
+        let Some(text) = spell(self.pattern) else {
+            return format!("Too long to type: its text has over {MAX_TEXT} bytes.");
+        };
+        let file = type_pattern(text.as_bytes(), LONGEST);
+        if file == Ok(self.pattern.to_bytes()) {
+            format!("Typed: {text}")
+        } else {
+            format!("Typed (the entries that the root reaches, in the order of typing): {text}")
+        }
     }
 }
 
@@ -114,6 +120,7 @@ impl fmt::Display for Formula<'_> {
             let note = if reached[number] { "" } else { "   (the root doesn't reach it)" };
             writeln!(f, "  e{number} := {text}{note}")?;
         }
+        writeln!(f, "{}", self.typed())?;
         let (area, nodes) =
             (area(self.pattern), count(self.pattern.node_entries(), "node entry", "node entries"));
         writeln!(f, "Judging a model wants {area} bytes of working area: {nodes}, 8 bytes each.")?;

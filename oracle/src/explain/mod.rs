@@ -9,11 +9,20 @@ mod tableau;
 mod tree;
 mod wording;
 
-pub use refusal::{model_detail, refused};
+pub use refusal::{model_detail, refused, text_refused};
 
-use crate::pattern;
+use crate::pattern::{self, LONGEST};
 use crate::tableau::MARK;
+use crate::typed::type_pattern;
 use formula::Formula;
+
+/// The same of a typed pattern.
+pub fn explain_typed(text: &[u8], proposal: &[u8]) -> String {
+    match type_pattern(text, LONGEST) {
+        Ok(pattern) => explain(&pattern, proposal),
+        Err(refused) => refusal::of_text(text, refused),
+    }
+}
 
 /// The two files explained. Like the bench program, takes the proposal for a tableau if it begins `TAB`,
 /// else for a model.

@@ -53,7 +53,7 @@ fn edges(model: &Model, node: usize) -> Option<String> {
     let on_axis = |axis: u8| {
         let edges = model.edges.iter().filter(|edge| edge.0 as usize == node && edge.1 == axis);
         let ends = joined(edges.map(|edge| edge.2.to_string()));
-        (!ends.is_empty()).then(|| format!("a{axis} to {ends}"))
+        (!ends.is_empty()).then(|| format!("axis {axis} to {ends}"))
     };
     let axes: Vec<String> = (0..=MAX_AXIS).filter_map(on_axis).collect();
     (!axes.is_empty()).then(|| axes.join("; "))

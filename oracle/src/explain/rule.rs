@@ -13,36 +13,39 @@ pub fn described(rule: u8) -> Option<(&'static str, &'static str)> {
 /// By rule number, from 1.
 const RULES: [(&str, &str); LAST_RULE as usize] = [
     ("not", "P has/lacks !f: lacks/has f"),
-    ("has both", "P has (f & g): has f, then has g"),
-    ("lacks both", "P lacks (f & g): fork, lacks f or lacks g"),
+    ("has both", "P has (f&g): has f, then has g"),
+    ("lacks both", "P lacks (f&g): fork, lacks f or lacks g"),
     ("name", "P has/lacks name j: is/is not j"),
-    ("has after", "P: i has <a>f; argument a fresh j: a leads from i to j, then j has f"),
-    ("lacks after", "P: i lacks <a>f; Q: a leads from i to j: j lacks f"),
-    (
-        "comparison",
-        "P: i has/lacks [x = y] or [x != y]: that comparison of (i, x) and (i, y) holds/is barred",
-    ),
+    ("has after", "P: i has <a>f; argument a fresh j: axis a leads from i to j, then j has f"),
+    ("lacks after", "P: i lacks <a>f; Q: axis a leads from i to j: j lacks f"),
+    ("comparison", "P: i has/lacks [x=cy] or [x#cy]: (i, x) =c or #c (i, y) holds/is barred"),
     ("exchange", "P a comparison: its two sides exchanged"),
-    ("jump", "P a comparison, left path @k x: the left side becomes (k, x)"),
-    ("held test", "P held, left path ?f x: i has f, then the comparison with x"),
-    ("barred test", "P barred, left path ?f x: fork, i lacks f or barred with x"),
-    ("held fork", "P held, left path {x | y}: fork, with x or with y"),
-    ("barred fork", "P barred, left path {x | y}: barred with x, then with y"),
-    ("held step", "P held, left path /a x; argument a fresh k: a leads from i to k, then held with (k, x)"),
-    ("barred step", "P barred, left path /a x; Q: a leads from i to k: barred with (k, x)"),
-    ("barred ends", "P barred, both paths at end: the other of = and != holds"),
+    ("jump", "P a comparison, left path @k, then x: the left side becomes (k, x)"),
+    ("held test", "P held, left path ?f, then x: i has f, then the comparison with x"),
+    ("barred test", "P barred, left path ?f, then x: fork, i lacks f or barred with x"),
+    ("held fork", "P held, left path {x|y}: fork, with x or with y"),
+    ("barred fork", "P barred, left path {x|y}: barred with x, then with y"),
+    (
+        "held step",
+        "P held, left path /a, then x; argument a fresh k: axis a leads from i to k, then held with (k, x)",
+    ),
+    ("barred step", "P barred, left path /a, then x; Q: axis a leads from i to k: barred with (k, x)"),
+    ("barred ends", "P barred, both paths at end: the other of = and # holds"),
     ("turned round", "P: i is j: j is i"),
-    ("same data", "P: i is j; argument a channel: (i, .) = (j, .) on it"),
+    ("same data", "P: i is j; argument a channel c: (i, end) =c (j, end)"),
     (
         "replace",
         "P: i is j; argument 0 (first or left name) or 1 (second or right): Q with i there replaced by j",
     ),
-    ("chain", "P: (i, .) = (j, .); Q: (j, .) = or != (k, .), one channel: (i, .) and (k, .) compare as in Q"),
+    (
+        "chain",
+        "P: (i, end) =c (j, end); Q: (j, end) =c or #c (k, end): (i, end) and (k, end) compare as in Q",
+    ),
     ("clash of signs", "P and Q alike but for sign: clash"),
-    ("clash of data", "P = and Q != hold, all else alike and both paths at end: clash"),
-    ("clash with itself", "P is \"i is not i\", or (i, .) != (i, .) holds: clash"),
-    ("has either", "P has (f | g): fork, has f or has g"),
-    ("lacks either", "P lacks (f | g): lacks f, then lacks g"),
+    ("clash of data", "P = and Q # hold, all else alike and both paths at end: clash"),
+    ("clash with itself", "P is \"i is not i\", or (i, end) #c (i, end) holds: clash"),
+    ("has either", "P has (f|g): fork, has f or has g"),
+    ("lacks either", "P lacks (f|g): lacks f, then lacks g"),
 ];
 
 /// A step: its rule and the fields that the rule uses.
@@ -54,7 +57,7 @@ pub fn step(step: &Step) -> String {
     }
     match step.rule {
         5 | 14 => text += &format!(", fresh name n{}", step.argument),
-        18 => text += &format!(", channel c{}", step.argument),
+        18 => text += &format!(", channel {}", step.argument),
         19 => text += &format!(", place {}", step.argument),
         _ => {}
     }

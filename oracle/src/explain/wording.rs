@@ -1,7 +1,8 @@
 //! Small pieces of text that several parts use.
 
-use super::formula::{Formula, sign};
+use super::formula::Formula;
 use crate::tableau::line::Line;
+use crate::typed::sign;
 
 /// A line of a tableau.
 pub fn line(formula: &Formula, line: &Line) -> String {
@@ -12,9 +13,9 @@ pub fn line(formula: &Formula, line: &Line) -> String {
         Line::Is { holds, first, second } => {
             format!("n{first} {} n{second}", if holds { "is" } else { "is not" })
         }
-        Line::Edge { axis, from, to } => format!("a{axis} leads from n{from} to n{to}"),
+        Line::Edge { axis, from, to } => format!("axis {axis} leads from n{from} to n{to}"),
         Line::Compare { holds, comparison, channel, left, right } => format!(
-            "{}(n{}, {}) {} (n{}, {}) on c{channel}",
+            "{}(n{}, {}) {}{channel} (n{}, {})",
             if holds { "" } else { "barred " },
             left.0,
             formula.path(left.1),

@@ -14,6 +14,10 @@ pub const MAX_NAME: u8 = 127;
 pub const MAX_AXIS: u8 = 7;
 pub const MAX_CHANNEL: u8 = 3;
 
+/// The entries of the largest pattern, and the bytes of its file.
+pub const MAX_ENTRIES: usize = 255;
+pub const LONGEST: usize = HEADER_BYTES + ENTRY_BYTES * MAX_ENTRIES;
+
 /// Where a path goes on: an earlier path entry, or `None`, the end of path.
 pub type Path = Option<usize>;
 

@@ -1,13 +1,45 @@
-//! What the tools have in common: how they read, print and count, and how they end. `target` is the file that one
-//! writes.
+//! What the tools have in common: how they start, read, print, count and end. `given` is the pattern that one is given,
+//! `text` that of a typed one, `target` the file that one writes.
 
+pub mod given;
 pub mod target;
+pub mod text;
 
+use std::ffi::OsString;
 use std::fmt::Display;
 use std::fs;
 use std::io::{self, ErrorKind, Write};
 use std::path::Path;
 use std::process::ExitCode;
+
+/// A tool's name, and what it says of its arguments.
+pub struct Tool {
+    pub name: &'static str,
+    pub usage: &'static str,
+    pub help: &'static str,
+}
+
+impl Tool {
+    /// Runs the tool by the arguments that it was started with, if they are understood. `--help` among them is all that
+    /// is asked for then.
+    pub fn start<Asked>(
+        &self,
+        understood: impl FnOnce(std::vec::IntoIter<OsString>) -> Option<Asked>,
+        run: impl FnOnce(&Asked) -> Result<bool, String>,
+    ) -> ExitCode {
+        let words: Vec<OsString> = std::env::args_os().skip(1).collect();
+        if words.iter().any(|word| word == "--help") {
+            return status(self.name, print(format!("{}\n{}", self.usage, self.help)).map(|_| true));
+        }
+        match understood(words.into_iter()) {
+            Some(asked) => status(self.name, run(&asked)),
+            None => {
+                eprintln!("{}", self.usage);
+                ExitCode::from(2)
+            }
+        }
+    }
+}
 
 /// The bytes of a file, or a message that names it.
 pub fn read(file: &Path) -> Result<Vec<u8>, String> {

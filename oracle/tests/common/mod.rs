@@ -3,6 +3,8 @@
 
 pub mod directory;
 pub mod output;
+pub mod texts;
+pub mod tool;
 
 /// A pattern file: entries are kind, x, y, z.
 pub fn pattern(entries: &[[u8; 4]]) -> Vec<u8> {

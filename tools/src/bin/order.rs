@@ -3,16 +3,17 @@
 use oracle::explain;
 use oracle::finding::Refusal;
 use oracle::tool::target::{self, Target};
-use oracle::tool::{self, counted};
+use oracle::tool::{self, Tool, counted};
 use std::ffi::OsString;
 use std::io;
-use std::path::{Path, PathBuf};
+use std::path::PathBuf;
 use std::process::ExitCode;
 use unit::{Finding, MODEL_LONGEST};
 
-const USAGE: &str = "usage: order [--over] OLD NEW";
-
-const HELP: &str = "\
+const TOOL: Tool = Tool {
+    name: "order",
+    usage: "usage: order [--over] OLD NEW",
+    help: "\
 Writes NEW from OLD, an older model file whose edges stand in any order and may be
 repeated: nodes and names as they stand, each edge once, rising by from, then axis,
 then to. Judged with any pattern, NEW gets the finding that OLD would get if the order
@@ -23,23 +24,18 @@ of edges were no matter. NEW stands there whole or not at all.
 
 Exit status: 0 if NEW is there; 1, with a message, if a file can't be read or written
 or OLD is refused; 2 for other arguments.
-";
+",
+};
 
 /// What was asked for.
-enum Asked {
-    Help,
-    Order { old: PathBuf, new: PathBuf, over: bool },
+struct Asked {
+    old: PathBuf,
+    new: PathBuf,
+    over: bool,
 }
 
 fn main() -> ExitCode {
-    match asked(std::env::args_os().skip(1)) {
-        Some(Asked::Help) => tool::status("order", tool::print(format!("{USAGE}\n{HELP}")).map(|_| true)),
-        Some(Asked::Order { old, new, over }) => tool::status("order", order(&old, &new, over)),
-        None => {
-            eprintln!("{USAGE}");
-            ExitCode::from(2)
-        }
-    }
+    TOOL.start(asked, order)
 }
 
 /// `None` if it isn't two files and options.
@@ -47,18 +43,17 @@ fn asked(words: impl Iterator<Item = OsString>) -> Option<Asked> {
     let (mut files, mut over) = (Vec::new(), false);
     for word in words {
         match word.to_str() {
-            Some("--help") => return Some(Asked::Help),
             Some("--over") => over = true,
             Some(option) if option.starts_with('-') => return None,
             _ => files.push(PathBuf::from(word)),
         }
     }
     let [old, new] = <[PathBuf; 2]>::try_from(files).ok()?;
-    Some(Asked::Order { old, new, over })
+    Some(Asked { old, new, over })
 }
 
 /// Writes the new file, and says what was done.
-fn order(old: &Path, new: &Path, over: bool) -> Result<bool, String> {
+fn order(Asked { old, new, over }: &Asked) -> Result<bool, String> {
     let unwritable = |error: io::Error| format!("{}: can't be written: {error}", new.display());
     let bytes = tool::read(old)?;
     let target = target::find(new).map_err(unwritable)?;
@@ -73,7 +68,7 @@ fn order(old: &Path, new: &Path, over: bool) -> Result<bool, String> {
     if !same || *ordered != bytes {
         target.put(ordered).map_err(unwritable)?;
     }
-    tool::tell("order", &done(&bytes, ordered, same));
+    tool::tell(TOOL.name, &done(&bytes, ordered, same));
     Ok(true)
 }
 

@@ -11,8 +11,8 @@ pub const AREA: usize = unit::MODEL_LONGEST + 64;
 /// What an area is filled with before the implementations are compared.
 const FILL: u8 = 0xa5;
 
-/// A pattern, to be read or asked for its area, or with a model or a tableau to judge, as files; or a model to put in
-/// order, without a pattern.
+/// A pattern, to be read or asked for its area, or with a model or a tableau to judge, as files; or without a pattern a
+/// model to put in order, or a text to type.
 pub struct Case {
     pub name: String,
     pub pattern: Vec<u8>,
@@ -26,6 +26,7 @@ pub enum Proposal {
     Model(Vec<u8>),
     Tableau(Vec<u8>),
     Old(Vec<u8>),
+    Text(Vec<u8>),
 }
 
 impl Case {
@@ -47,6 +48,10 @@ impl Case {
 
     pub fn ordering(name: &str, old: &Model) -> Case {
         Case { name: name.to_owned(), pattern: Vec::new(), proposal: Proposal::Old(old.to_bytes()) }
+    }
+
+    pub fn typing(name: &str, text: &[u8]) -> Case {
+        Case { name: name.to_owned(), pattern: Vec::new(), proposal: Proposal::Text(text.to_vec()) }
     }
 
     fn new(name: &str, pattern: &Pattern, proposal: Proposal) -> Case {

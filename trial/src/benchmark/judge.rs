@@ -27,12 +27,13 @@ trait Operations {
     fn judge_model(pattern: &[u8], model: &[u8], area: &mut [u8]) -> Self::Finding;
     fn judge_tableau(pattern: &[u8], tableau: &[u8], area: &mut [u8]) -> Self::Finding;
     fn order(old: &[u8], destination: &mut [u8]) -> Self::Finding;
+    fn type_pattern(text: &[u8], destination: &mut [u8]) -> Self::Finding;
     fn model_area(pattern: &[u8]) -> usize;
 }
 
 /// Implements the operations by functions of that form.
 macro_rules! operations {
-    ($name:ident, $finding:ty, $read:path, $judge_model:path, $judge_tableau:path, $order:path, $area:path) => {
+    ($name:ident, $finding:ty, $read:path, $judge_model:path, $judge_tableau:path, $order:path, $type:path, $area:path) => {
         struct $name;
 
         impl Operations for $name {
@@ -54,6 +55,10 @@ macro_rules! operations {
                 $order(old, destination)
             }
 
+            fn type_pattern(text: &[u8], destination: &mut [u8]) -> $finding {
+                $type(text, destination)
+            }
+
             fn model_area(pattern: &[u8]) -> usize {
                 $area(pattern)
             }
@@ -68,6 +73,7 @@ operations!(
     unit::judge_model,
     unit::judge_tableau,
     unit::order,
+    unit::type_pattern,
     unit::model_area
 );
 operations!(
@@ -77,6 +83,7 @@ operations!(
     oracle::model::judge,
     oracle::tableau::judge,
     oracle::model::order,
+    crate::differential::implementation::type_pattern,
     oracle::model::area_wanted
 );
 operations!(
@@ -86,6 +93,7 @@ operations!(
     crate::fast::judge_model,
     crate::fast::judge_tableau,
     crate::fast::order,
+    crate::fast::type_pattern,
     crate::fast::model_area
 );
 
@@ -106,6 +114,7 @@ fn answer<O: Operations>(case: &Case, area: &mut [u8]) -> Answer<O::Finding> {
         Proposal::Model(model) => O::judge_model(&case.pattern, model, area),
         Proposal::Tableau(tableau) => O::judge_tableau(&case.pattern, tableau, area),
         Proposal::Old(old) => O::order(old, area),
+        Proposal::Text(text) => O::type_pattern(text, area),
     })
 }
 

@@ -13,18 +13,19 @@ mod report;
 mod stack;
 mod timing;
 
-use inputs::{models, older, tableaux};
+use inputs::{models, older, tableaux, texts};
 use report::Lines;
 
 /// Begins the tables of a group.
 type Tables = fn() -> Lines;
 
 /// The groups of tables, by name.
-pub const GROUPS: [(&str, Tables); 6] = [
+pub const GROUPS: [(&str, Tables); 7] = [
     ("reading", || report::ratios("reading", inputs::readings())),
     ("model", || report::ratios("model", models::cases())),
     ("tableau", || report::ratios("tableau", tableaux::cases())),
     ("ordering", || report::ratios("ordering", older::cases())),
+    ("typing", || report::ratios("typing", texts::cases())),
     ("growth", || Box::new(growth::all().into_iter().flat_map(report::exponents))),
     ("stack", || report::stacks(inputs::deepest())),
 ];

@@ -1,5 +1,6 @@
 //! Runs the compiled bench program on a few hundred pairs of files, some missing or oversized, and
-//! compares the line it prints with what the independent implementation finds.
+//! compares the line it prints with what the independent implementation finds; or the typist on a few
+//! hundred texts, and compares what it prints and writes.
 
 use oracle::tool;
 use std::ffi::OsString;
@@ -7,17 +8,19 @@ use std::path::Path;
 use std::process::ExitCode;
 use trial::programs;
 
-const USAGE: &str = "usage: programs PROGRAM [SAMPLES]";
+const USAGE: &str = "usage: programs PROGRAM [SAMPLES]
+       programs --typist PROGRAM";
 
 fn main() -> ExitCode {
     let words: Vec<OsString> = std::env::args_os().skip(1).collect();
-    let (program, samples) = match &words[..] {
-        [program] => (program, None),
-        [program, samples] => (program, Some(Path::new(samples))),
+    let passed = match &words[..] {
+        [typist, program] if typist == "--typist" => programs::typist::run(Path::new(program)),
+        [program] if program != "--typist" => programs::run(Path::new(program), None),
+        [program, samples] => programs::run(Path::new(program), Some(Path::new(samples))),
         _ => {
             eprintln!("{USAGE}");
             return ExitCode::from(2);
         }
     };
-    tool::status("programs", programs::run(Path::new(program), samples))
+    tool::status("programs", passed)
 }

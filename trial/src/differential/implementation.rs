@@ -1,10 +1,11 @@
 //! What is compared: implementations of the operations of documents 01 and 02 behind one form.
 
+use super::composed;
 use crate::fast;
 use crate::generate::input::Operation;
 use oracle::finding::{Finding, Refusal};
 
-/// The bytes lent to an operation; the area of putting a model in order is the destination. The pattern and the
+/// The bytes lent to an operation; the area of one that writes a file is the destination. The pattern and the
 /// proposal can be changed as far as Rust knows, so that a comparison can be tested with an implementation that does
 /// it.
 pub struct Lent<'a> {
@@ -35,6 +36,19 @@ pub fn run_oracle(operation: Operation, lent: Lent) -> Finding {
         Operation::Ordering => oracle::model::order(lent.proposal, lent.area),
         Operation::Ordered => oracle::model::judge_old(lent.pattern, lent.proposal, lent.area),
         Operation::Area => Finding::Area { bytes: oracle::model::area_wanted(lent.pattern) },
+        Operation::Typing => type_pattern(lent.pattern, lent.area),
+        Operation::Typed => composed::judge(lent.pattern, lent.proposal, lent.area),
+    }
+}
+
+/// The independent implementation's typing, onto a destination.
+pub fn type_pattern(text: &[u8], destination: &mut [u8]) -> Finding {
+    match oracle::typed::type_pattern(text, destination.len()) {
+        Ok(file) => {
+            destination[..file.len()].copy_from_slice(&file);
+            Finding::Written { length: file.len() as u16 }
+        }
+        Err(refusal) => Finding::Refused(refusal),
     }
 }
 
@@ -46,11 +60,14 @@ fn run_fast(operation: Operation, lent: Lent) -> Finding {
         Operation::Ordering => fast::order(lent.proposal, lent.area),
         Operation::Ordered => judge_ordered(fast::order, fast::judge_model, lent),
         Operation::Area => Finding::Area { bytes: fast::model_area(lent.pattern) },
+        Operation::Typing => fast::type_pattern(lent.pattern, lent.area),
+        Operation::Typed => judge_typed(fast::type_pattern, fast::judge_model, lent),
     }
 }
 
 fn run_unit(operation: Operation, lent: Lent) -> Finding {
     let order = |old: &[u8], new: &mut [u8]| found(unit::order(old, new));
+    let types = |text: &[u8], new: &mut [u8]| found(unit::type_pattern(text, new));
     let judge =
         |pattern: &[u8], model: &[u8], area: &mut [u8]| found(unit::judge_model(pattern, model, area));
     match operation {
@@ -60,6 +77,8 @@ fn run_unit(operation: Operation, lent: Lent) -> Finding {
         Operation::Ordering => order(lent.proposal, lent.area),
         Operation::Ordered => judge_ordered(order, judge, lent),
         Operation::Area => Finding::Area { bytes: unit::model_area(lent.pattern) },
+        Operation::Typing => types(lent.pattern, lent.area),
+        Operation::Typed => judge_typed(types, judge, lent),
     }
 }
 
@@ -78,6 +97,19 @@ pub fn judge_ordered(
             Finding::Refused(Refusal { number: 10, .. }) => refused,
             before => before,
         },
+    }
+}
+
+/// Types the pattern and judges the model of the file, or gives what was refused of the text.
+pub fn judge_typed(
+    types: impl Fn(&[u8], &mut [u8]) -> Finding,
+    judge: impl Fn(&[u8], &[u8], &mut [u8]) -> Finding,
+    lent: Lent,
+) -> Finding {
+    let mut file = [0; unit::PATTERN_LONGEST];
+    match types(lent.pattern, &mut file) {
+        Finding::Written { length } => judge(&file[..length.into()], lent.proposal, lent.area),
+        refused => refused,
     }
 }
 

@@ -4,6 +4,7 @@ use super::either::Parts;
 use super::ends::Led;
 use super::fresh::{Brought, Had};
 use super::rows::Kept;
+use super::typing;
 use crate::generate::input::{Input, Operation};
 use oracle::finding::Finding;
 use oracle::pattern;
@@ -13,8 +14,8 @@ use oracle::tableau::{self, HEADER_BYTES, STEP_BYTES};
 /// A limit in words, and whether an input with its finding shows it.
 pub type Limit = (&'static str, fn(&Judged) -> bool);
 
-/// An input with its finding, and what that says of names that a tableau asks for, and of the paths of a pattern
-/// whose model is judged.
+/// An input with its finding, and what that says of names that a tableau asks for, of the paths of a pattern whose model
+/// is judged, and of a text.
 pub struct Judged<'a> {
     pub input: &'a Input,
     pub finding: Finding,
@@ -23,6 +24,8 @@ pub struct Judged<'a> {
     pub(super) paths: Option<Kept>,
     pub(super) led: Option<Led>,
     pub(super) parts: Vec<Parts>,
+    /// The entries that were written of a text.
+    pub(super) typed: Vec<[u8; 4]>,
 }
 
 pub const LIMITS: [Limit; 51] = [
@@ -96,7 +99,8 @@ impl<'a> Judged<'a> {
         let paths = Kept::of(input, finding);
         let led = paths.as_ref().map(|kept| Led::of(input, kept));
         let parts = paths.as_ref().map_or_else(Vec::new, |kept| Parts::of(input, kept));
-        Judged { input, finding, had, brought, paths, led, parts }
+        let typed = typing::entries_of(input, finding);
+        Judged { input, finding, had, brought, paths, led, parts, typed }
     }
 
     pub(super) fn refused(&self, number: u16) -> bool {

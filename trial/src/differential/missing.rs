@@ -1,6 +1,7 @@
 //! What a run must see: every finding, refusal, limit and kind of input, every rule often, each name refused in every
-//! way, and each length of area wanted.
+//! way, each length of area wanted, and each number and each wrong byte of a text.
 
+use super::grids::GRIDS;
 use super::names::EACH_NAME;
 use super::situations::{SITUATIONS, Situations};
 use super::tally::Tally;
@@ -26,20 +27,12 @@ impl Tally {
         ];
         for operation in Operation::ALL {
             seen.extend(refusals(operation).map(|number| {
-                let times = self.refused[operation as usize][number].times;
+                let times = self.refused(operation, number).times;
                 (times, format!("refusal {number} of {}", words(operation)))
             }));
         }
         self.add_rules(&mut seen);
-        for Situations { sort, shown, .. } in SITUATIONS {
-            seen.extend(
-                shown.iter().map(|(words, _)| (self.showing(sort, words), format!("{sort}: {words}"))),
-            );
-        }
-        for (names, (what, _)) in self.names.iter().zip(EACH_NAME) {
-            let each = 0..=MAX_NAME.into();
-            seen.extend(each.map(|name| (names.contains(&name).into(), format!("name {name} {what}"))));
-        }
+        self.add_situations(&mut seen);
         for length in (0..=model::AREA).step_by(model::AREA / MAX_ENTRIES) {
             seen.push((self.areas.contains(&length).into(), format!("an area of {length} bytes wanted")));
         }
@@ -52,6 +45,22 @@ impl Tally {
             seen.push((self.kinds[kind as usize], format!("an input of the kind: {}", kind.words())));
         }
         seen.into_iter().filter(|(times, _)| *times == 0).map(|(_, what)| what).collect()
+    }
+
+    /// Adds what inputs must show: situations, each name in every way, and the cells of the grids.
+    fn add_situations(&self, seen: &mut Vec<(u64, String)>) {
+        for Situations { sort, shown, .. } in SITUATIONS {
+            seen.extend(
+                shown.iter().map(|(words, _)| (self.showing(sort, words), format!("{sort}: {words}"))),
+            );
+        }
+        for (names, (what, _)) in self.names.iter().zip(EACH_NAME) {
+            let each = 0..=MAX_NAME.into();
+            seen.extend(each.map(|name| (names.contains(&name).into(), format!("name {name} {what}"))));
+        }
+        for (grid, counts) in GRIDS.iter().zip(&self.grids) {
+            seen.extend(grid.cells().map(|(cell, words)| (counts.get(&cell).copied().unwrap_or(0), words)));
+        }
     }
 
     /// Adds what must be seen of the rules.
@@ -79,6 +88,8 @@ pub fn refusals(operation: Operation) -> impl Iterator<Item = usize> {
         Operation::Ordering => &[[10, 14], [29, 29]],
         Operation::Ordered => &[[1, 14], [27, 27]],
         Operation::Area => &[],
+        Operation::Typing => &[[30, 32]],
+        Operation::Typed => &[[9, 14], [27, 28], [30, 32]],
     };
     firsts_and_lasts.iter().flat_map(|&[first, last]| first..=last)
 }
@@ -91,5 +102,7 @@ pub fn words(operation: Operation) -> &'static str {
         Operation::Ordering => "putting a model in order",
         Operation::Ordered => "judging a model put in order",
         Operation::Area => "asking for the area of a pattern",
+        Operation::Typing => "typing a pattern",
+        Operation::Typed => "judging a model of a typed pattern",
     }
 }

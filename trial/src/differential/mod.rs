@@ -5,17 +5,20 @@
 //! `fault` names it if it is left; `tally` counts what occurred (`limits` says which limits an input
 //! shows, `areas` what it shows of the working area that a model wants, `names` of the pattern's names, `edges` of the
 //! order of a model's edges, `fresh` of the names that a tableau asks for, `slots` of entries that share one, `rows` of
-//! paths that lose theirs, `ends` of where paths lead, `either` of either and its rules, `older` of older models;
-//! `situations` has them all), `missing` what never did or too seldom, and `table` prints it; `report` shows one input
-//! in full.
+//! paths that lose theirs, `ends` of where paths lead, `either` of either and its rules, `older` of older models, `typing`
+//! of typed patterns; `situations` has them all, and `grids` those of numbers and wrong bytes in a text), `missing` what
+//! never did or too seldom, and `table` prints it; `report` shows one input in full. `composed` says what a typed pattern
+//! means by its text alone.
 
 mod areas;
 pub mod compare;
+mod composed;
 mod edges;
 mod either;
 mod ends;
 pub mod fault;
 mod fresh;
+mod grids;
 pub mod guarded;
 pub mod implementation;
 mod limits;
@@ -29,3 +32,4 @@ mod situations;
 mod slots;
 mod table;
 pub mod tally;
+mod typing;

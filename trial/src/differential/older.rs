@@ -96,15 +96,15 @@ pub const JUDGED_OLD: [Limit; 14] = [
 ];
 
 impl Judged<'_> {
-    /// The length of the new file.
-    fn length(&self) -> Option<usize> {
+    /// The length of the file that was written.
+    pub(super) fn length(&self) -> Option<usize> {
         match self.finding {
             Finding::Written { length } => Some(length.into()),
             _ => None,
         }
     }
 
-    fn written(&self) -> bool {
+    pub(super) fn written(&self) -> bool {
         self.length().is_some()
     }
 
@@ -118,8 +118,8 @@ impl Judged<'_> {
         self.length() == Some(self.input.proposal.len())
     }
 
-    /// Whether a new file was written to a destination that is so much longer.
-    fn destination_over(&self, by: usize) -> bool {
+    /// Whether a file was written to a destination that is so much longer.
+    pub(super) fn destination_over(&self, by: usize) -> bool {
         self.length().is_some_and(|length| length + by == self.input.area.length)
     }
 
@@ -129,7 +129,7 @@ impl Judged<'_> {
         self.refused(29).then(new).filter(|&length| length == self.input.area.length + 1)
     }
 
-    fn met(&self) -> bool {
+    pub(super) fn met(&self) -> bool {
         matches!(self.finding, Finding::Met { .. })
     }
 

@@ -15,16 +15,24 @@ pub fn describe(input: &Input, seed: u64, number: u64) -> String {
         writeln!(text, "{label:<12}{words}").expect("a string takes any text");
     };
     line("operation", words(input.operation).to_string());
-    let (proposal, area) = match input.operation {
-        Operation::Ordering => ("old file", "destination"),
-        _ => ("proposal", "area"),
+    let (pattern, proposal, area) = match input.operation {
+        Operation::Ordering => (None, Some("old file"), "destination"),
+        Operation::Reading | Operation::Area => (Some("pattern"), None, ""),
+        Operation::Typing => (Some("text"), None, "destination"),
+        Operation::Typed => (Some("text"), Some("proposal"), "area"),
+        _ => (Some("pattern"), Some("proposal"), "area"),
     };
-    if input.operation != Operation::Ordering {
-        line("pattern", in_hex(&input.pattern));
+    if let Some(label) = pattern {
+        line(label, in_hex(&input.pattern));
     }
-    if !Operation::OF_PATTERNS_ALONE.contains(&input.operation) {
+    if Operation::OF_TEXTS.contains(&input.operation) {
+        line("as typed", input.pattern.escape_ascii().to_string());
+    }
+    if let Some(label) = proposal {
+        line(label, in_hex(&input.proposal));
+    }
+    if !area.is_empty() {
         let Area { length, fill } = input.area;
-        line(proposal, in_hex(&input.proposal));
         line(area, format!("{length} bytes, byte k is 1 + ((k + {fill}) * 101 mod 251)"));
     }
     text

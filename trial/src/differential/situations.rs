@@ -10,6 +10,7 @@ use super::names::NAMES;
 use super::older::{JUDGED_OLD, ORDERED};
 use super::rows::ROWS;
 use super::slots::SHARED;
+use super::typing::{COMPLETED, JUDGED_TEXT, REFUSED};
 use crate::generate::input::Operation;
 
 /// Situations of one sort: the heading of their table, the words before one that is missing, the operations whose
@@ -24,8 +25,9 @@ pub struct Situations {
 const READING: &[Operation] = &[Operation::Reading];
 const MODEL: &[Operation] = &[Operation::Model];
 const TABLEAU: &[Operation] = &[Operation::Tableau];
+const TYPING: &[Operation] = &[Operation::Typing];
 
-pub const SITUATIONS: [Situations; 14] = [
+pub const SITUATIONS: [Situations; 17] = [
     Situations {
         heading: "limits",
         sort: "limit",
@@ -99,5 +101,23 @@ pub const SITUATIONS: [Situations; 14] = [
         sort: "older models judged",
         of: &[Operation::Ordered],
         shown: &JUDGED_OLD,
+    },
+    Situations {
+        heading: "texts refused, and destinations of pattern files",
+        sort: "texts refused",
+        of: TYPING,
+        shown: &REFUSED,
+    },
+    Situations {
+        heading: "texts written as pattern files",
+        sort: "texts written",
+        of: TYPING,
+        shown: &COMPLETED,
+    },
+    Situations {
+        heading: "models judged of typed patterns",
+        sort: "texts judged",
+        of: &[Operation::Typed],
+        shown: &JUDGED_TEXT,
     },
 ];

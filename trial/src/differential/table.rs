@@ -1,5 +1,6 @@
 //! The table that a run prints of its tally.
 
+use super::grids::GRIDS;
 use super::missing::{refusals, words};
 use super::names::EACH_NAME;
 use super::situations::{SITUATIONS, Situations};
@@ -31,16 +32,9 @@ impl fmt::Display for Tally {
         for situations in SITUATIONS {
             self.write_shown(f, situations)?;
         }
+        self.write_grids(f)?;
         self.write_each_name(f)?;
-        writeln!(f, "files of 0 to 10 bytes")?;
-        for operation in Operation::ALL {
-            writeln!(
-                f,
-                "{:>12}    for {}",
-                self.short[operation as usize].iter().sum::<u64>(),
-                words(operation)
-            )?;
-        }
+        self.write_short(f)?;
         writeln!(f, "demand 3")?;
         writeln!(f, "{:>12}    models of a pattern with a closed tableau: unmet", self.unmet_as_closed)?;
         writeln!(
@@ -55,8 +49,34 @@ impl Tally {
     fn write_refusals(&self, f: &mut fmt::Formatter<'_>, operation: Operation) -> fmt::Result {
         writeln!(f, "refusals of {}, with the largest place", words(operation))?;
         for number in refusals(operation) {
-            let refused = self.refused[operation as usize][number];
+            let refused = self.refused(operation, number);
             writeln!(f, "{:>12}    {number:>2} {:>12}", refused.times, refused.deepest)?;
+        }
+        Ok(())
+    }
+
+    fn write_short(&self, f: &mut fmt::Formatter<'_>) -> fmt::Result {
+        writeln!(f, "files of 0 to 10 bytes")?;
+        for operation in Operation::ALL {
+            writeln!(
+                f,
+                "{:>12}    for {}",
+                self.short[operation as usize].iter().sum::<u64>(),
+                words(operation)
+            )?;
+        }
+        Ok(())
+    }
+
+    fn write_grids(&self, f: &mut fmt::Formatter<'_>) -> fmt::Result {
+        for (grid, counts) in GRIDS.iter().zip(&self.grids) {
+            writeln!(f, "{}: {}", grid.heading, grid.columns.join(", "))?;
+            for (row, words) in grid.rows.iter().enumerate() {
+                let cells = 0..grid.columns.len();
+                let counts = cells.map(|column| counts.get(&(row, column)).copied().unwrap_or(0));
+                let counts: String = counts.map(|times| format!("{times:>9}")).collect();
+                writeln!(f, "{counts}    {words}")?;
+            }
         }
         Ok(())
     }

@@ -1,5 +1,6 @@
 //! What occurred in a run: findings, refusals, rules and kinds of input.
 
+use super::grids::{Cell, GRIDS};
 use super::limits::Judged;
 use super::names::EACH_NAME;
 use super::situations::{SITUATIONS, Situations};
@@ -10,8 +11,7 @@ use oracle::tableau::{HEADER_BYTES, STEP_BYTES};
 use std::collections::{BTreeMap, BTreeSet, HashSet};
 use std::hash::{DefaultHasher, Hash, Hasher};
 
-/// The largest refusal number and the largest rule number.
-const REFUSALS: usize = 29;
+/// The largest rule number.
 const RULES: usize = LAST_RULE as usize;
 
 /// How many lengths of short files are counted: 0 to 10 bytes.
@@ -22,6 +22,13 @@ const SHORT: usize = 11;
 pub struct Refused {
     pub times: u64,
     pub deepest: u16,
+}
+
+impl Refused {
+    fn add(&mut self, other: Refused) {
+        self.times += other.times;
+        self.deepest = self.deepest.max(other.deepest);
+    }
 }
 
 /// How often a rule occurred: closed tableaux that use it, and steps with it that were refused 20, 21
@@ -45,15 +52,17 @@ pub struct Tally {
     pub area: u64,
     /// The bytes of working area that were wanted.
     pub areas: BTreeSet<usize>,
-    /// Refusals by operation and number.
-    pub refused: [[Refused; REFUSALS + 1]; Operation::ALL.len()],
+    /// Refusals by operation and number; none for one that never occurred.
+    pub refused: [BTreeMap<usize, Refused>; Operation::ALL.len()],
     pub rules: [RuleUse; RULES + 1],
     /// Inputs that show a limit or another situation, by its sort and words; none for what no input shows.
     pub shown: BTreeMap<(&'static str, &'static str), u64>,
     /// The names that showed what each must show.
     pub names: [BTreeSet<usize>; EACH_NAME.len()],
-    /// Files of 0 to 10 bytes, by operation: patterns for reading and for asking how long an area is wanted, else
-    /// models or tableaux.
+    /// Inputs that show a cell of a grid.
+    pub grids: [BTreeMap<Cell, u64>; GRIDS.len()],
+    /// Files of 0 to 10 bytes, by operation: patterns for reading and for asking how long an area is wanted, texts for
+    /// typing, else models or tableaux.
     pub short: [[u64; SHORT]; Operation::ALL.len()],
     /// Models judged unmet of a pattern with a closed tableau.
     pub unmet_as_closed: u64,
@@ -68,17 +77,8 @@ impl Tally {
     pub fn count(&mut self, input: &Input, finding: Finding) {
         self.inputs += 1;
         self.kinds[input.kind as usize] += 1;
-        let judged = Judged::new(input, finding);
-        let tables = SITUATIONS.iter().filter(|table| table.of.contains(&input.operation));
-        for &Situations { sort, shown, .. } in tables {
-            for (words, _) in shown.iter().filter(|(_, shows)| shows(&judged)) {
-                *self.shown.entry((sort, words)).or_default() += 1;
-            }
-        }
-        for (names, (_, shown_of)) in self.names.iter_mut().zip(EACH_NAME) {
-            names.extend(shown_of(&judged));
-        }
-        if input.operation != Operation::Ordering {
+        self.count_shown(&Judged::new(input, finding));
+        if Operation::OF_PATTERNS.contains(&input.operation) {
             self.count_short(Operation::Reading, &input.pattern);
         }
         if input.operation != Operation::Reading {
@@ -103,6 +103,24 @@ impl Tally {
         }
     }
 
+    /// Counts what the input shows: situations, names, and cells of the grids.
+    fn count_shown(&mut self, judged: &Judged) {
+        let tables = SITUATIONS.iter().filter(|table| table.of.contains(&judged.input.operation));
+        for &Situations { sort, shown, .. } in tables {
+            for (words, _) in shown.iter().filter(|(_, shows)| shows(judged)) {
+                *self.shown.entry((sort, words)).or_default() += 1;
+            }
+        }
+        for (names, (_, shown_of)) in self.names.iter_mut().zip(EACH_NAME) {
+            names.extend(shown_of(judged));
+        }
+        for (counts, grid) in self.grids.iter_mut().zip(GRIDS) {
+            for cell in (grid.shown)(judged) {
+                *counts.entry(cell).or_default() += 1;
+            }
+        }
+    }
+
     /// Counts a file of the operation if it is short.
     fn count_short(&mut self, operation: Operation, file: &[u8]) {
         if let Some(times) = self.short[operation as usize].get_mut(file.len()) {
@@ -111,7 +129,7 @@ impl Tally {
     }
 
     fn count_refused(&mut self, input: &Input, refusal: Refusal) {
-        let refused = &mut self.refused[input.operation as usize][refusal.number as usize];
+        let refused = self.refused[input.operation as usize].entry(refusal.number.into()).or_default();
         refused.times += 1;
         refused.deepest = refused.deepest.max(refusal.place);
         if let 20..=22 = refusal.number {
@@ -158,18 +176,32 @@ impl Tally {
                 *mine += theirs;
             }
         }
-        for (mine, theirs) in self.refused.iter_mut().flatten().zip(other.refused.iter().flatten()) {
-            mine.times += theirs.times;
-            mine.deepest = mine.deepest.max(theirs.deepest);
+        for (mine, theirs) in self.refused.iter_mut().zip(&other.refused) {
+            for (number, refused) in theirs {
+                mine.entry(*number).or_default().add(*refused);
+            }
         }
+        self.add_shown(other);
+        self.areas.extend(&other.areas);
+        self.distinct.extend(&other.distinct);
+    }
+
+    /// Adds what the inputs of another tally show.
+    fn add_shown(&mut self, other: &Tally) {
         for (situation, times) in &other.shown {
             *self.shown.entry(*situation).or_default() += times;
+        }
+        for (mine, theirs) in self.grids.iter_mut().zip(&other.grids) {
+            theirs.iter().for_each(|(cell, times)| *mine.entry(*cell).or_default() += times);
         }
         for (mine, theirs) in self.names.iter_mut().zip(&other.names) {
             mine.extend(theirs);
         }
-        self.areas.extend(&other.areas);
-        self.distinct.extend(&other.distinct);
+    }
+
+    /// What occurred of a refusal of the operation.
+    pub fn refused(&self, operation: Operation, number: usize) -> Refused {
+        self.refused[operation as usize].get(&number).copied().unwrap_or_default()
     }
 
     /// How many inputs show the situation of this sort.

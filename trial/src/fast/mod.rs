@@ -1,11 +1,12 @@
 //! Document 01, with the requests of document 02 that have landed, implemented for speed, to measure the proved
-//! library against: no allocation but for edges to be sorted, no code shared with the other implementations but the
-//! type of a finding.
+//! library against: no allocation but for edges to be sorted and for the items of a text, no code shared with the other
+//! implementations but the type of a finding.
 //!
 //! - `pattern` reads a pattern in one pass over its entries;
 //! - `model` reads a model file, `reach` finds what the root needs, `evaluate` works upward through those
 //!   entries with sets of nodes as 64-bit words (`axes`, `classes` and `compare` are its parts);
 //! - `order` puts an older model in order by sorting its edges;
+//! - `typing` reads a text into a pattern file;
 //! - `tableau` checks a tableau file, `walk` goes along its branches, `rules` concludes, and `line` packs
 //!   a line of a branch into 64 bits.
 
@@ -20,6 +21,7 @@ mod pattern;
 mod reach;
 mod rules;
 mod tableau;
+mod typing;
 mod walk;
 
 use oracle::finding::{Finding, Refusal};
@@ -56,6 +58,14 @@ pub fn judge_tableau(pattern: &[u8], tableau: &[u8], area: &mut [u8]) -> Finding
 /// Puts an older model in order.
 pub fn order(old: &[u8], destination: &mut [u8]) -> Finding {
     match order::order(old, destination) {
+        Ok(length) => Finding::Written { length: length as u16 },
+        Err(refusal) => Finding::Refused(refusal),
+    }
+}
+
+/// Reads a typed pattern into a pattern file.
+pub fn type_pattern(text: &[u8], destination: &mut [u8]) -> Finding {
+    match typing::type_pattern(text, destination) {
         Ok(length) => Finding::Written { length: length as u16 },
         Err(refusal) => Finding::Refused(refusal),
     }

@@ -3,7 +3,9 @@
 
 use oracle::pattern::{self, Entry, Pattern};
 use oracle::random::Random;
+use oracle::typed::type_pattern;
 use oracle::{model, tableau};
+use unit::PATTERN_LONGEST;
 
 /// The working area or the destination as it is lent.
 #[derive(Clone, Copy, Debug, PartialEq, Eq)]
@@ -58,20 +60,33 @@ impl Area {
         Area { length, fill: random.byte() }
     }
 
-    /// A destination for the old file: mostly as long as the new file, often a byte longer or shorter, or between the
-    /// new file and the old one; else of any length. For a file that is refused, the new one would be as long.
+    /// A destination for the old file. For a file that is refused, the new one would be as long.
     pub fn destination(random: &mut Random, old: &[u8]) -> Area {
         let old_length = old.len().min(LONGEST_AREA - 1);
         let new_length = model::in_order(old).map_or(old_length, |new| new.len());
+        Area::to_write(random, new_length, old_length)
+    }
+
+    /// A destination for the pattern file of a text. For a text that is refused, the file would be of any length, now and
+    /// then of the longest.
+    pub fn of_text(random: &mut Random, text: &[u8]) -> Area {
+        let of_refused = if random.once_in(4) { PATTERN_LONGEST } else { random.between(0, PATTERN_LONGEST) };
+        let length = type_pattern(text, PATTERN_LONGEST).map_or(of_refused, |file| file.len());
+        Area::to_write(random, length, PATTERN_LONGEST)
+    }
+
+    /// A destination for a file: mostly as long as it is, often a byte longer or shorter, or between it and a length
+    /// that is enough; else of any length.
+    fn to_write(random: &mut Random, length: usize, enough: usize) -> Area {
         let length = match random.below(16) {
             0 => random.pick(&[0, 0, 1, 8, 9]),
             1 => random.between(0, LONGEST_AREA),
-            2..5 => new_length.saturating_sub(1),
-            5..8 => random.between(new_length, old_length),
-            8 => old_length,
-            9..11 => new_length + 1,
-            11 => random.between(new_length, LONGEST_AREA),
-            _ => new_length,
+            2..5 => length.saturating_sub(1),
+            5..8 => random.between(length, enough),
+            8 => enough,
+            9..11 => length + 1,
+            11 => random.between(length, LONGEST_AREA),
+            _ => length,
         };
         Area { length, fill: random.byte() }
     }

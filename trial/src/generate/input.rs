@@ -2,7 +2,7 @@
 
 use super::area::Area;
 
-/// The operations of documents 01 and 02, a judgement of what one of them writes, and the question how long an area
+/// The operations of documents 01 and 02, judgements of what two of them write, and the question how long an area
 /// another wants.
 #[derive(Clone, Copy, Debug, PartialEq, Eq, Hash)]
 pub enum Operation {
@@ -15,24 +15,33 @@ pub enum Operation {
     Ordered,
     /// Asking how many bytes of working area judging a model of a pattern wants.
     Area,
+    /// Reading a typed pattern into a pattern file: the pattern is the text, the area the destination.
+    Typing,
+    /// Judging a model of a typed pattern, which is the text.
+    Typed,
 }
 
 impl Operation {
-    pub const ALL: [Operation; 6] = [
+    pub const ALL: [Operation; 8] = [
         Operation::Reading,
         Operation::Model,
         Operation::Tableau,
         Operation::Ordering,
         Operation::Ordered,
         Operation::Area,
+        Operation::Typing,
+        Operation::Typed,
     ];
 
-    /// Those that have a pattern.
+    /// Those that have a pattern file.
     pub const OF_PATTERNS: [Operation; 5] =
         [Operation::Reading, Operation::Model, Operation::Tableau, Operation::Ordered, Operation::Area];
 
-    /// Those that have a pattern and nothing else.
+    /// Those that have a pattern file and nothing else.
     pub const OF_PATTERNS_ALONE: [Operation; 2] = [Operation::Reading, Operation::Area];
+
+    /// Those that have a text.
+    pub const OF_TEXTS: [Operation; 2] = [Operation::Typing, Operation::Typed];
 }
 
 /// A finding that demand 3 rules out for an input: no pattern has both a closed tableau and a model
@@ -90,6 +99,11 @@ kinds! {
     JudgedOldModel "an older model to be judged when put in order"
     NodesAndPaths "a model for a pattern of so many nodes and paths"
     AreaOfPattern "a pattern of so many nodes and paths, whose area is asked for"
+    Text "a text of the grammar"
+    SpoiltText "a text with something out of place"
+    NumberInText "a text with a number at its limit or beyond"
+    TextLimit "a text of a shape, or at a limit or one over"
+    JudgedText "a model for a typed pattern"
 }
 
 /// One input. The same value serves for one input after another, so that its buffers are kept where they can.
@@ -97,19 +111,22 @@ kinds! {
 pub struct Input {
     pub kind: Kind,
     pub operation: Operation,
-    /// The pattern file; empty where a model is put in order.
+    /// The pattern file, or the text of one; empty where a model is put in order.
     pub pattern: Vec<u8>,
-    /// The model or tableau file; empty where there is a pattern alone.
+    /// The model or tableau file; empty where there is a pattern or a text alone.
     pub proposal: Vec<u8>,
-    /// The working area, or the destination of a model that is put in order.
+    /// The working area, or the destination of what is written.
     pub area: Area,
     pub never: Option<Never>,
 }
 
 impl Input {
-    /// The file that the operation is about.
+    /// The file or text that the operation is about.
     pub fn file(&self) -> &[u8] {
-        if Operation::OF_PATTERNS_ALONE.contains(&self.operation) { &self.pattern } else { &self.proposal }
+        match self.operation {
+            Operation::Reading | Operation::Area | Operation::Typing => &self.pattern,
+            _ => &self.proposal,
+        }
     }
 
     /// An input to be filled by a generator.

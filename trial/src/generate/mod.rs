@@ -4,8 +4,9 @@
 //! those whose entries share slots, `paths` those of many paths (`rows` says which of them have their rows),
 //! `models` random models, `walk` random tableaux; `corpus` keeps what the planner found for them and for
 //! patterns that can't occur, which `contradiction` and `composition` make.
+//! `texts` makes texts of typed patterns.
 //! `rename`, `asked`, `disorder`, `age` and `mutate` change files, and `limits` writes those at document 01's limits.
-//! `area` is the working area, or the destination of a model that is put in order.
+//! `area` is the working area, or the destination of what is written.
 
 mod age;
 pub mod area;
@@ -25,6 +26,7 @@ mod recipes;
 mod rename;
 pub mod rows;
 pub mod slots;
+pub mod texts;
 mod walk;
 
 use corpus::Corpus;

@@ -1,8 +1,9 @@
 //! The compiled bench program run on pairs of files, and what it prints compared with what the independent
-//! implementation finds.
+//! implementation finds; and the typist on texts.
 
 mod folder;
 mod pairs;
+pub mod typist;
 
 use folder::Folder;
 use oracle::tool;

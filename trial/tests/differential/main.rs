@@ -13,6 +13,7 @@ use faults::ordering::{self, OTHER_BYTES, OTHER_FINDINGS, TOUCHED};
 use faults::rows;
 use faults::slots::{COMPARINGS, compared};
 use faults::tableau::{self, Fault, NONE};
+use faults::typing::{self, BRACES, OTHER_NUMBERS};
 use oracle::finding::{Finding, Refusal};
 use oracle::model::{area_wanted, check_names};
 use trial::differential::compare::{Comparer, What};
@@ -117,6 +118,9 @@ fn check_situations(complete: &Tally) {
         ("either in a tableau", "rule 24 of lacking either refused 21"),
         ("older models", "destination one short refused 29"),
         ("older models judged", "met, edges out of order"),
+        ("texts refused", "second | in a brace refused 30"),
+        ("texts written", "255 entries"),
+        ("texts judged", "met, something behind a brace"),
     ] {
         let mut tally = complete.clone();
         assert!(tally.shown.remove(&situation).is_some());
@@ -124,10 +128,43 @@ fn check_situations(complete: &Tally) {
     }
 }
 
+/// Checks that a refusal is named if it never occurs.
+fn check_refusals(complete: &Tally) {
+    for (operation, number, words) in [
+        (Operation::Reading, 8, "reading a pattern"),
+        (Operation::Model, 14, "judging a model"),
+        (Operation::Model, 27, "judging a model"),
+        (Operation::Model, 28, "judging a model"),
+        (Operation::Tableau, 24, "judging a tableau"),
+        (Operation::Ordering, 29, "putting a model in order"),
+        (Operation::Ordered, 14, "judging a model put in order"),
+        (Operation::Typing, 31, "typing a pattern"),
+        (Operation::Typed, 32, "judging a model of a typed pattern"),
+    ] {
+        let mut tally = complete.clone();
+        assert!(tally.refused[operation as usize].remove(&number).is_some());
+        assert_eq!(tally.missing(), [format!("refusal {number} of {words}")]);
+    }
+}
+
+/// Checks that a cell of a grid is named if it never occurs.
+fn check_grids(complete: &Tally) {
+    for (grid, cell, words) in [
+        (0, (6, 1), "numbers in texts, by what stands before them: name @, one above"),
+        (1, (3, 0), "first wrong byte of a text, by what may stand there: >, the end"),
+    ] {
+        let mut tally = complete.clone();
+        assert!(tally.grids[grid].remove(&cell).is_some());
+        assert_eq!(tally.missing(), [words]);
+    }
+}
+
 #[test]
 fn everything_occurs_and_what_never_does_is_named() {
     let complete = tally(COMPLETE);
     check_situations(&complete);
+    check_refusals(&complete);
+    check_grids(&complete);
     let missing = |change: fn(&mut Tally)| {
         let mut tally = complete.clone();
         change(&mut tally);
@@ -135,18 +172,8 @@ fn everything_occurs_and_what_never_does_is_named() {
     };
     assert_eq!(missing(|_| {}), [""; 0]);
     assert_eq!(missing(|tally| tally.met = 0), ["finding met"]);
-    assert_eq!(missing(|tally| tally.refused[0][8].times = 0), ["refusal 8 of reading a pattern"]);
-    assert_eq!(missing(|tally| tally.refused[1][14].times = 0), ["refusal 14 of judging a model"]);
-    assert_eq!(missing(|tally| tally.refused[1][27].times = 0), ["refusal 27 of judging a model"]);
     assert_eq!(missing(|tally| assert!(tally.names[0].remove(&77))), ["name 77 refused 27"]);
-    assert_eq!(missing(|tally| tally.refused[1][28].times = 0), ["refusal 28 of judging a model"]);
-    assert_eq!(missing(|tally| tally.refused[2][24].times = 0), ["refusal 24 of judging a tableau"]);
     assert_eq!(missing(|tally| tally.written = 0), ["finding written"]);
-    assert_eq!(missing(|tally| tally.refused[3][29].times = 0), ["refusal 29 of putting a model in order"]);
-    assert_eq!(
-        missing(|tally| tally.refused[4][14].times = 0),
-        ["refusal 14 of judging a model put in order"]
-    );
     assert_eq!(missing(|tally| assert!(tally.areas.remove(&0))), ["an area of 0 bytes wanted"]);
     assert_eq!(missing(|tally| assert!(tally.areas.remove(&2040))), ["an area of 2040 bytes wanted"]);
     let seldom = "rule 24 in a closed tableau, once in 1000 inputs";
@@ -388,6 +415,41 @@ fn an_older_model_judged_as_it_stands_is_seen() {
 }
 
 #[test]
+fn mistakes_about_what_is_refused_of_a_text_are_seen() {
+    for (words, typist) in typing::OTHER_FINDINGS.into_iter().chain(OTHER_NUMBERS) {
+        is_seen_among(words, &|operation, lent| typist.run(operation, lent));
+    }
+}
+
+/// A file that is wrong may be of another length too.
+#[test]
+fn mistakes_in_completing_entries_are_seen() {
+    for (words, typist) in typing::OTHER_BYTES.into_iter().chain(BRACES) {
+        let what = seen(&|operation, lent| typist.run(operation, lent));
+        assert!(matches!(what, What::Finding { .. } | What::Area { .. }), "{words}: {what:?}");
+    }
+}
+
+/// The file isn't looked at: what is found of models tells.
+#[test]
+fn a_path_lost_behind_a_brace_is_seen_by_what_models_meet() {
+    for (words, typist) in BRACES {
+        is_seen_among(words, &|operation, lent| typist.run_judged(operation, lent));
+    }
+}
+
+#[test]
+fn a_destination_changed_by_a_refused_text_is_seen() {
+    for (number, typist) in typing::TOUCHED {
+        let what = seen(&|operation, lent| typist.run(operation, lent));
+        assert!(
+            matches!(what, What::Area { before, expected, .. } if before == expected),
+            "{number}: {what:?}"
+        );
+    }
+}
+
+#[test]
 fn the_planted_judges_are_right_without_a_fault() {
     let lowest = |pattern: &_, model: &_| check_names(pattern, model).err().map(|refusal| refusal.place);
     is_right(&|operation, lent| mistaken(lowest, operation, lent));
@@ -400,6 +462,8 @@ fn the_planted_judges_are_right_without_a_fault() {
     is_right(&|operation, lent| rows::SWEEPING.run(operation, lent));
     is_right(&|operation, lent| ordering::RIGHT.run(operation, lent));
     is_right(&|operation, lent| ordering::RIGHT.run_judged(operation, lent));
+    is_right(&|operation, lent| typing::RIGHT.run(operation, lent));
+    is_right(&|operation, lent| typing::RIGHT.run_judged(operation, lent));
 }
 
 #[test]

@@ -7,7 +7,7 @@ use trial::benchmark::case::{Case, Proposal};
 use trial::benchmark::inputs::models::{self, Size, random_model};
 use trial::benchmark::inputs::older::{self, older};
 use trial::benchmark::inputs::tableaux::{self, Fresh, workshop, workshop_of_either};
-use trial::benchmark::inputs::{patterns, readings};
+use trial::benchmark::inputs::{patterns, readings, texts};
 use trial::benchmark::judge::{FAST, ORACLE};
 
 /// Both give the same finding and leave the same area, of this length.
@@ -116,6 +116,7 @@ fn agree_mutated(case: &Case, times: u64) {
             Proposal::Model(model) => Proposal::Model(changed(model)),
             Proposal::Tableau(tableau) => Proposal::Tableau(changed(tableau)),
             Proposal::Old(old) => Proposal::Old(changed(old)),
+            Proposal::Text(text) => Proposal::Text(changed(text)),
         };
         let wanted = area_wanted(&pattern);
         let length = random.pick(&[8192, 8192, 8191, 2040, wanted, wanted + 1, wanted.saturating_sub(1), 0]);
@@ -166,6 +167,25 @@ fn older_models() {
 fn mutated_older_models() {
     for seed in 0..60 {
         agree_mutated(&older_case(seed), 30);
+    }
+}
+
+#[test]
+fn texts_and_mutated_texts() {
+    for case in texts::cases() {
+        for length in [1100, 1026, 1025, 400, 10, 0] {
+            agree(&case, length);
+        }
+        agree_mutated(&case, 500);
+    }
+}
+
+/// The texts that are timed as the longest have as many bytes as a text may have.
+#[test]
+fn the_longest_texts_have_1024_bytes() {
+    for case in texts::cases() {
+        let Proposal::Text(text) = &case.proposal else { panic!("{} is no text", case.name) };
+        assert!(text.len() == 1024 || !case.name.starts_with("1,024 bytes"), "{}: {}", case.name, text.len());
     }
 }
 

@@ -3,10 +3,12 @@
 mod file;
 mod names;
 mod step;
+mod text;
 
 pub use file::{model_detail, of_model, of_pattern, of_tableau};
 pub use names::of_names;
 pub use step::of_step;
+pub use text::{of_text, text_refused};
 
 use crate::finding::{Finding, Refusal};
 
@@ -24,13 +26,14 @@ pub fn refused(refusal: Refusal) -> String {
         14 | 28 => format!(", edge record {place}"),
         19..=25 => format!(", step {place}"),
         27 => format!(", name n{place}"),
+        30 | 31 => format!(", byte {place}"),
         _ => String::new(),
     };
     format!("{}{where_at}: {}", Finding::Refused(refusal), MEANINGS[number as usize - 1])
 }
 
-/// By refusal number, from 1 to 29: what documents 01 and 02 say of it, and with 27 what may have happened.
-const MEANINGS: [&str; 29] = [
+/// By refusal number, from 1 to 32: what documents 01 and 02 say of it, and with 27 what may have happened.
+const MEANINGS: [&str; 32] = [
     "the pattern file has under 6 bytes or doesn't begin with PAT",
     "the pattern file's version isn't 1",
     "the number of entries is zero, or the pattern file's length isn't 6 + 4 for each",
@@ -60,4 +63,7 @@ const MEANINGS: [&str; 29] = [
     "the pattern uses it and the model doesn't list it (was its meter removed?)",
     "it doesn't come after the record before it (edges rise by from, then axis, then to, each once)",
     "the destination is shorter than the new file",
+    "no typed pattern has that there, or the text has over 1024 bytes",
+    "the number is out of range",
+    "the text makes over 255 different entries, or the destination is shorter than the pattern file",
 ];

@@ -5,6 +5,7 @@ pub mod older;
 pub mod patterns;
 mod script;
 pub mod tableaux;
+pub mod texts;
 mod typical;
 
 use super::case::Case;
@@ -28,5 +29,6 @@ pub fn readings() -> Vec<Case> {
 pub fn deepest() -> Vec<Case> {
     let readings = readings().into_iter().skip(1);
     let models = models::cases().into_iter().skip(2);
-    readings.chain(models).chain(tableaux::deep_cases()).chain(older::cases()).collect()
+    let written = older::cases().into_iter().chain(texts::cases());
+    readings.chain(models).chain(tableaux::deep_cases()).chain(written).collect()
 }

@@ -1,21 +1,23 @@
 //! How an input of each kind is made: those of models in `model`, of older models in `older`, of tableaux in `tableau`,
-//! the others here.
+//! of typed patterns in `text`, the others here.
 
 mod model;
 mod older;
 mod tableau;
+mod text;
 
 use crate::generate::age::age;
 use crate::generate::area::Area;
 use crate::generate::corpus::{Corpus, Planned};
 use crate::generate::input::{Input, Kind, Operation};
 use crate::generate::mutate::{Sort, mutate};
-use crate::generate::{limits, patterns};
+use crate::generate::{limits, patterns, texts};
 use oracle::planner::builder::MAX_ENTRIES;
 use oracle::random::Random;
+use oracle::typed::type_pattern;
 
 /// The share of each kind among the inputs.
-const SHARES: [(usize, Kind); 27] = [
+const SHARES: [(usize, Kind); 32] = [
     (4, Kind::ValidPattern),
     (7, Kind::MutatedPattern),
     (5, Kind::PatternLimit),
@@ -43,6 +45,11 @@ const SHARES: [(usize, Kind); 27] = [
     (5, Kind::JudgedOldModel),
     (5, Kind::NodesAndPaths),
     (4, Kind::AreaOfPattern),
+    (4, Kind::Text),
+    (6, Kind::SpoiltText),
+    (4, Kind::NumberInText),
+    (3, Kind::TextLimit),
+    (4, Kind::JudgedText),
 ];
 
 /// Makes an input of a random kind.
@@ -63,10 +70,7 @@ pub fn make(random: &mut Random, corpus: &Corpus, input: &mut Input) {
         Kind::ManyPaths => model::of_many_paths(random, input),
         Kind::PlannedModel | Kind::MutatedPlannedModel => model::planned(random, corpus, input),
         Kind::WalkedTableau | Kind::WrongStep => tableau::random_walk(random, corpus, input),
-        Kind::TableauLimit => {
-            limits::tableau::tableau(random, &mut input.pattern, &mut input.proposal);
-            input.operation = Operation::Tableau;
-        }
+        Kind::TableauLimit => tableau::limit(random, input),
         Kind::PlannedTableau | Kind::MutatedPlannedTableau => tableau::planned(random, corpus, input),
         Kind::OtherName => tableau::other_name(random, corpus, input),
         Kind::Exchanged => exchanged(random, corpus, input),
@@ -78,19 +82,32 @@ pub fn make(random: &mut Random, corpus: &Corpus, input: &mut Input) {
         }
         Kind::JudgedOldModel => older::judged(random, corpus, input),
         Kind::NodesAndPaths => model::of_nodes_and_paths(random, input),
-        Kind::AreaOfPattern => {
-            input.operation = Operation::Area;
-            let nodes = if random.once_in(8) { 1 } else { random.between(1, MAX_ENTRIES) };
-            input.pattern = patterns::of_nodes(random, nodes, MAX_ENTRIES).to_bytes();
+        Kind::AreaOfPattern => area_of_pattern(random, input),
+        Kind::Text | Kind::SpoiltText | Kind::NumberInText | Kind::TextLimit => {
+            text::to_be_typed(random, input);
         }
+        Kind::JudgedText => text::judged(random, corpus, input),
     }
+    lend_area(random, input);
+}
+
+/// Lends the area or the destination that the operation wants; what is no part of its input goes.
+fn lend_area(random: &mut Random, input: &mut Input) {
     input.area = match input.operation {
         Operation::Reading | Operation::Area => Area::NONE,
         Operation::Model | Operation::Ordered => Area::of_model(random, &input.pattern),
+        Operation::Typed => {
+            let file = type_pattern(&input.pattern, usize::MAX).unwrap_or_default();
+            Area::of_model(random, &file)
+        }
         Operation::Tableau => Area::of_tableau(random),
         Operation::Ordering => {
             input.pattern.clear();
             Area::destination(random, &input.proposal)
+        }
+        Operation::Typing => {
+            input.proposal.clear();
+            Area::of_text(random, &input.pattern)
         }
     };
 }
@@ -109,6 +126,13 @@ fn kind(random: &mut Random) -> Kind {
 fn valid_pattern(random: &mut Random, input: &mut Input) {
     input.operation = Operation::Reading;
     input.pattern = patterns::random(random).to_bytes();
+}
+
+/// A pattern whose area is asked for, now and then one with a single node.
+fn area_of_pattern(random: &mut Random, input: &mut Input) {
+    input.operation = Operation::Area;
+    let nodes = if random.once_in(8) { 1 } else { random.between(1, MAX_ENTRIES) };
+    input.pattern = patterns::of_nodes(random, nodes, MAX_ENTRIES).to_bytes();
 }
 
 /// A planned pattern with its own proposal, or a random one with any; the pattern mutated.
@@ -134,7 +158,8 @@ fn any_operation(random: &mut Random, corpus: &Corpus, input: &mut Input) {
             model::for_pattern(random, corpus, input);
             age(random, &mut input.proposal);
         }
-        Operation::Reading | Operation::Ordering | Operation::Area => {}
+        Operation::Reading | Operation::Ordering | Operation::Area | Operation::Typing | Operation::Typed => {
+        }
     }
 }
 
@@ -163,6 +188,11 @@ fn unrelated(random: &mut Random, corpus: &Corpus, input: &mut Input) {
     input.operation = random.pick(&Operation::ALL);
     match input.operation {
         Operation::Reading | Operation::Area => {}
+        Operation::Typing => noise(random, b"[{|/0", &mut input.pattern),
+        Operation::Typed => {
+            input.pattern = texts::random(random);
+            noise(random, b"DAT\x01\x00", &mut input.proposal);
+        }
         Operation::Model | Operation::Ordering | Operation::Ordered => {
             noise(random, b"DAT\x01\x00", &mut input.proposal);
         }

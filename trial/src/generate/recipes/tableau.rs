@@ -7,9 +7,14 @@ use crate::generate::input::{Input, Kind, Never, Operation};
 use crate::generate::mutate::{Sort, mutate};
 use crate::generate::rename::Renaming;
 use crate::generate::walk::Walker;
-use crate::generate::{asked, patterns};
+use crate::generate::{asked, limits, patterns};
 use oracle::pattern::Pattern;
 use oracle::random::Random;
+
+pub fn limit(random: &mut Random, input: &mut Input) {
+    input.operation = Operation::Tableau;
+    limits::tableau::tableau(random, &mut input.pattern, &mut input.proposal);
+}
 
 pub fn planned(random: &mut Random, corpus: &Corpus, input: &mut Input) {
     let planned = any(random, &corpus.closed);

@@ -14,7 +14,7 @@ impl Walker<'_> {
     pub fn add_wrong(&mut self, random: &mut Random) {
         let mut step = self.fitting(random).unwrap_or(Step { rule: 1, p: 0, q: 0, argument: 0 });
         let lines = self.walk.branch().len();
-        match random.below(17) {
+        match random.below(20) {
             0 => step.rule = random.pick(&[0, rules::LAST_RULE + 1, rules::LAST_RULE + 2, 32, 33, 255]),
             1 => step.p = random.pick(&[lines, lines + 1, 1023, 1024, 65535, lines | 256]) as u16,
             2 => step.q = random.pick(&[1, lines - 1, lines, 1024, 65535, 256]) as u16,
@@ -26,7 +26,7 @@ impl Walker<'_> {
                 step = self.clash(random).unwrap_or(step);
                 std::mem::swap(&mut step.p, &mut step.q);
             }
-            10 | 11 => step = self.other_axis().unwrap_or(step),
+            10..12 | 17..20 => step = self.other_axis(random).unwrap_or(step),
             12 => step = self.two_differs().unwrap_or(step),
             13 => step.argument = random.pick(&[1, 2, 127, 128, 255]),
             _ => step = self.almost(random).unwrap_or(step),
@@ -50,10 +50,15 @@ impl Walker<'_> {
         best.map(|step| if rules::uses_q(rule) { step } else { Step { q: 0, ..step } })
     }
 
-    /// The first step of rule 6 or 15 that fits but for the axis, if the branch has lines for one.
-    fn other_axis(&self) -> Option<Step> {
+    /// The first step of rule 6 that fits but for the axis, or of rule 15, if the branch has lines for one.
+    fn other_axis(&self, random: &mut Random) -> Option<Step> {
+        let [one, other] = random.pick(&[[6, 15], [6, 15], [15, 6]]);
+        self.other_axis_of(one).or_else(|| self.other_axis_of(other))
+    }
+
+    fn other_axis_of(&self, rule: u8) -> Option<Step> {
         let branch = self.walk.branch();
-        let fits_otherwise = |rule: u8, p: &Line, q: &Line| match (p, q) {
+        let fits_otherwise = |p: &Line, q: &Line| match (p, q) {
             (Line::Has { name, .. }, Line::Edge { from, .. })
             | (Line::Compare { left: (name, _), .. }, Line::Edge { from, .. }) => {
                 name == from && resembles(self.pattern, rule, Premise::P, p)
@@ -61,9 +66,8 @@ impl Walker<'_> {
             _ => false,
         };
         let pairs = (0..branch.len()).flat_map(|p| (0..branch.len()).map(move |q| (p, q)));
-        let steps = pairs.flat_map(|(p, q)| [6, 15].map(|rule| (rule, p, q)));
-        let steps = steps.filter(|&(rule, p, q)| fits_otherwise(rule, &branch[p], &branch[q]));
-        let mut steps = steps.map(|(rule, p, q)| Step { rule, p: p as u16, q: q as u16, argument: 0 });
+        let fitting = pairs.filter(|&(p, q)| fits_otherwise(&branch[p], &branch[q]));
+        let mut steps = fitting.map(|(p, q)| Step { rule, p: p as u16, q: q as u16, argument: 0 });
         steps.find(|step| self.apply(step).is_none())
     }
 

@@ -1,6 +1,7 @@
-//! Judges, and an orderer, with a fault planted in them.
+//! Judges, an orderer and a typist, with a fault planted in them.
 
 pub mod area;
+pub mod completing;
 pub mod edges;
 pub mod either;
 pub mod fresh;
@@ -10,3 +11,4 @@ pub mod ordering;
 pub mod rows;
 pub mod slots;
 pub mod tableau;
+pub mod typing;

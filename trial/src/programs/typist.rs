@@ -1,0 +1,148 @@
+//! The compiled typist run on texts, and what it prints and writes compared with what the independent implementation
+//! makes of them.
+
+use super::folder::Folder;
+use super::pairs::Content;
+use super::{naming, outcome};
+use crate::differential::implementation::type_pattern;
+use crate::generate::Generator;
+use crate::generate::input::{Input, Operation};
+use crate::generate::texts::exactly;
+use oracle::finding::Finding;
+use oracle::tool;
+use std::io::{self, ErrorKind, Write};
+use std::path::Path;
+use std::process::{Child, Command, Output, Stdio};
+use std::time::Duration;
+use unit::PATTERN_LONGEST;
+
+/// How many texts of the differential run are tried, and of which seed.
+const GENERATED: usize = 300;
+const SEED: u64 = 1;
+
+/// The file that the program writes.
+const FILE: &str = "pattern.bin";
+
+/// Between two pieces of a text.
+const PAUSE: Duration = Duration::from_millis(20);
+
+/// A text, with the words that name it in a message, and how many of its bytes come at once before a pause.
+struct Typed {
+    words: String,
+    text: Vec<u8>,
+    at_once: usize,
+}
+
+/// Runs every text, with a file there before and without, and prints how many there were; whether all came out as
+/// expected.
+pub fn run(program: &Path) -> Result<bool, String> {
+    let program = program.canonicalize().map_err(|error| naming(program, error))?;
+    let texts = [generated(), odd(), in_pieces()];
+    let [generated, odd, pieces] = texts.each_ref().map(Vec::len);
+    tool::print(format!("programs: {generated} texts generated, {odd} odd ones, {pieces} in pieces\n"))?;
+    let folder = Folder::new()?;
+    let before = [None, Some(vec![7; 2 * PATTERN_LONGEST]), Some(Vec::new())];
+    let mut wrong = 0;
+    for (typed, before) in texts.iter().flatten().zip(before.iter().cycle()) {
+        let content = before.clone().map_or(Content::Missing, Content::Bytes);
+        folder.put(FILE, &content)?;
+        let expected = expected(&typed.text, before.as_deref());
+        let found = found(&program, &folder, typed)?;
+        if found != expected {
+            wrong += 1;
+            eprintln!("programs: {}: {found}, expected {expected}", typed.words);
+        }
+    }
+    let all = generated + odd + pieces;
+    tool::print(format!("programs: {all} texts, {wrong} typed otherwise than expected\n"))?;
+    Ok(wrong == 0)
+}
+
+/// Texts of the differential run, of all kinds.
+fn generated() -> Vec<Typed> {
+    let mut generator = Generator::new(SEED);
+    let mut input = Input::blank();
+    let inputs = (0..).filter_map(|number| {
+        generator.make(number, &mut input);
+        let words = format!("input {number} of seed {SEED}");
+        (input.operation == Operation::Typing).then(|| whole(words, &input.pattern))
+    });
+    inputs.take(GENERATED).collect()
+}
+
+/// No text, each byte by itself, texts at the limit and over it, some of them far over.
+fn odd() -> Vec<Typed> {
+    let bytes = (0..=255).map(|byte| whole(format!("byte {byte}"), &[byte]));
+    let lengths = [1023, 1024, 1025, 1026, 4096, 65_536, 65_538, 1_000_000];
+    let nodes = lengths.map(|length| whole(format!("a node of {length} bytes"), &exactly(length)));
+    let nots = lengths.map(|length| whole(format!("{length} nots"), &vec![b'!'; length]));
+    let lines =
+        ["p0\n", "p0\r\n", "p0 ", "\np0", "p0\0"].map(|text| whole(format!("{text:?}"), text.as_bytes()));
+    let none = [whole("no text".to_string(), b"")];
+    bytes.chain(nodes).chain(nots).chain(lines).chain(none).collect()
+}
+
+/// Texts of which a part comes later.
+fn in_pieces() -> Vec<Typed> {
+    let cut = |(text, at_once): (Vec<u8>, usize)| {
+        let words = format!("{} bytes, {at_once} of them at once", text.len());
+        Typed { words, text, at_once }
+    };
+    let small = b"(<0>p0&!<0>p0)".to_vec();
+    let texts = [(small.clone(), 1), (small.clone(), 7), (small, 13), (exactly(1024), 512)];
+    texts
+        .into_iter()
+        .chain([(exactly(1024), 1023), (exactly(1025), 1024), (exactly(5000), 1025)])
+        .map(cut)
+        .collect()
+}
+
+fn whole(words: String, text: &[u8]) -> Typed {
+    Typed { words, text: text.to_vec(), at_once: text.len() }
+}
+
+/// What the program should print, and what should stand in the file's place then.
+fn expected(text: &[u8], before: Option<&[u8]>) -> String {
+    let mut destination = [0; PATTERN_LONGEST];
+    let finding = type_pattern(text, &mut destination);
+    let after = match finding {
+        Finding::Written { length } => Some(&destination[..length.into()]),
+        _ => before,
+    };
+    in_words(&outcome(format!("{finding}\n").as_bytes(), b"", Some(0)), after)
+}
+
+/// What the program prints, its exit status, and what stands in the file's place then.
+fn found(program: &Path, folder: &Folder, typed: &Typed) -> Result<String, String> {
+    let output = output(program, folder, typed).map_err(|error| naming(program, error))?;
+    let printed = outcome(&output.stdout, &output.stderr, output.status.code());
+    let file = folder.path.join(FILE);
+    let after = file.exists().then(|| folder.read(FILE, usize::MAX));
+    Ok(in_words(&printed, after.as_deref()))
+}
+
+fn output(program: &Path, folder: &Folder, typed: &Typed) -> io::Result<Output> {
+    let mut command = Command::new(program);
+    command.current_dir(&folder.path).stdin(Stdio::piped()).stdout(Stdio::piped()).stderr(Stdio::piped());
+    let mut child = command.spawn()?;
+    hand_over(&mut child, typed)?;
+    child.wait_with_output()
+}
+
+/// Writes the text to the program, which may have read enough before its end.
+fn hand_over(child: &mut Child, typed: &Typed) -> io::Result<()> {
+    let mut input = child.stdin.take().expect("its input is a pipe");
+    let (first, rest) = typed.text.split_at(typed.at_once);
+    let written = input.write_all(first).and_then(|()| {
+        if !rest.is_empty() {
+            std::thread::sleep(PAUSE);
+        }
+        input.write_all(rest)
+    });
+    written.or_else(|error| if error.kind() == ErrorKind::BrokenPipe { Ok(()) } else { Err(error) })
+}
+
+fn in_words(printed: &str, file: Option<&[u8]>) -> String {
+    let file = file.map_or("missing".to_string(), |bytes| bytes.escape_ascii().to_string());
+    format!("{printed}, {FILE} {file}")
+}
