@@ -62,12 +62,12 @@ abbrev pub fileFound : Finding (List ℕ) → List ℕ
 fileFound (found file) = file
 fileFound (refused number place) = []
 
--- the like of its length
+-- ---- laws
+
+-- the length that is found: 0 where the text is refused
 abbrev pub lengthFound : Finding ℕ → ℕ
 lengthFound (found length) = length
 lengthFound (refused number place) = 0
-
--- ---- laws
 
 -- what becomes of the destination is that the file found stands at its front, and nothing where there is none
 pub file-stands : (f : Finding (List ℕ)) (before after : List ℕ) (n : ℕ) → after ≡ destinationAfter f before → n ≡ lengthFound (written f)
