@@ -41,6 +41,8 @@ use Rattle.branch_walk.specs.Walk.{Bounded}
 use Rattle.branch_walk.specs.WalkLaws.{none-bounded}
 use Rattle.tableau.specs.JudgingCloses as closure
 use Rattle.tableau.specs.Judging as tableau
+use Rattle.typing.specs.Typing.{typingOf}
+use Rattle.typing.specs.Findings.{Small, typing-small}
 
 -- the number is one of 14 bits
 abbrev pub Narrow : ℕ → Type 0
@@ -206,6 +208,14 @@ ordering-narrow ds room =
     (onward-narrow NarrowFile (file.modelCheck Order.Any ds) _ (model-narrow ds Order.Any)
     (λ e. unless-narrow NarrowFile (refusesIf (ltb room (length (orderedFile ds))) 29 0) (orderedFile ds)
     (fault-narrow (ltb room (length (orderedFile ds))) 29 0 (lit< tt) (lit< tt)) (λ _. new-narrow ds (file-valid.model-valid Order.Any ds e .0))))
+
+-- ---- typing a pattern
+typing-written : (f : Finding (List ℕ)) → Small f → NarrowFinding Narrow (written f)
+typing-written (found file) h = omega (arith, h)
+typing-written (refused number place) h = (omega (arith, h .0), omega (arith, h .1))
+
+pub typing-narrow : (xs : List ℕ) (room : ℕ) → NarrowFinding Narrow (written (typingOf xs room))
+typing-narrow xs room = typing-written (typingOf xs room) (typing-small xs room)
 
 -- ---- judging a tableau
 

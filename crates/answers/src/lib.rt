@@ -3,12 +3,14 @@ use model::finding::ModelFinding;
 use model_order::OrderFinding;
 use pattern::finding::PatternRead;
 use tableau::finding::TableauFinding;
+use typing::finding::TypeFinding;
 ghost use mathlib.Core.Path.{_≡_};
 ghost use Prim.Native.Nat.{_≤_};
 ghost use Rattle.pattern.specs.File.Reading as reading;
 ghost use Rattle.model.specs.Judging as model-specs;
 ghost use Rattle.model_order.specs.Ordering as order-specs;
 ghost use Rattle.tableau.specs.Judging as tableau-specs;
+ghost use Rattle.typing.specs.Typing as typing-specs;
 ghost use Rattle.answers.specs.Packed as packed-specs;
 ghost use Rattle.answers.specs.Packed.{refusedAnswer, readAnswer, modelAnswer, tableauAnswer, writtenAnswer};
 
@@ -87,5 +89,15 @@ pub fn order_answer(f: OrderFinding) -> u64
     match f {
         OrderFinding::Written(length) => packed(WRITTEN, length, 0, 0, 0),
         OrderFinding::Refused(refusal) => refused_answer(refusal.number(), refusal.place()),
+    }
+}
+
+// The answer of typing a pattern.
+pub fn type_answer(f: TypeFinding) -> u64
+    ensures { λ r. ⌜ r ≡ writtenAnswer (typing-specs.findingOf f) ⌝ }
+{
+    match f {
+        TypeFinding::Written(length) => packed(WRITTEN, length, 0, 0, 0),
+        TypeFinding::Refused(refusal) => refused_answer(refusal.number(), refusal.place()),
     }
 }

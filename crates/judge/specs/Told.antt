@@ -12,9 +12,10 @@ use Rattle.model_order.specs.Ordering.{orderingOf, OrderPromise}
 use Rattle.tableau.specs.declared.finding.Closed.{Closed}
 use Rattle.tableau.specs.Judging as tableau
 use Rattle.tableau.specs.Closure.{Excluded}
+use Rattle.typing.specs.Typing.{typingOf, TypePromise}
 use Rattle.answers.specs.Packed.{metKind, closedKind, answerKind, met-kind, closed-kind, modelAnswer, tableauAnswer, writtenAnswer}
 use Rattle.answers.specs.Unpacked.{told, unpackModel, unpackTableau, unpackWritten, model-unpacked, tableau-unpacked, written-unpacked, one-told}
-use Rattle.answers.specs.Narrow.{Narrow, NarrowFinding, NarrowJudged, NarrowClosed, model-judging-narrow, tableau-judging-narrow, ordering-narrow}
+use Rattle.answers.specs.Narrow.{Narrow, NarrowFinding, NarrowJudged, NarrowClosed, model-judging-narrow, tableau-judging-narrow, ordering-narrow, typing-narrow}
 use Rattle.judge.specs.Promises.{NeverMet, NeverClosed, ModelPromise, TableauPromise}
 
 -- ---- laws
@@ -56,12 +57,25 @@ tableau-told bs ts lent left f answer h e =
       ),
     )
 
+-- The packed finding of an operation that writes a file, whose finding is narrow, tells that finding, of which what is promised holds.
+pub written-told : (Promise : Finding ℕ → Type 0) (found-of f : Finding ℕ) (answer : ℕ) → Promise f → f ≡ found-of → NarrowFinding Narrow found-of
+    → answer ≡ writtenAnswer f
+    → (answer ≡ writtenAnswer found-of)
+    × ((unpackWritten answer ≡ told found-of) × ((g : Finding ℕ) → unpackWritten answer ≡ told g → Promise g))
+written-told Promise found-of f answer h is narrow e =
+    let tells = ap unpackWritten e ∙ written-unpacked f (subst (NarrowFinding Narrow) (sym is) narrow) in
+    (e ∙ ap writtenAnswer is, (tells ∙ ap told is, λ g q. subst Promise (one-told f g (sym tells ∙ q)) h))
+
 pub order-told : (ds lent left : List ℕ) (f : Finding ℕ) (answer : ℕ) → OrderPromise ds lent f left → answer ≡ writtenAnswer f
     → (answer ≡ writtenAnswer (written (orderingOf ds (length lent))))
     × ((unpackWritten answer ≡ told (written (orderingOf ds (length lent))))
     × ((g : Finding ℕ) → unpackWritten answer ≡ told g → OrderPromise ds lent g left))
 order-told ds lent left f answer h e =
-    let tells = ap unpackWritten e ∙ written-unpacked f (subst (NarrowFinding Narrow) (sym (h .finding)) (ordering-narrow ds (length lent))) in (
-      e ∙ ap writtenAnswer (h .finding),
-      (tells ∙ ap told (h .finding), λ g q. subst (λ (x : Finding ℕ). OrderPromise ds lent x left) (one-told f g (sym tells ∙ q)) h),
-    )
+    written-told (λ g. OrderPromise ds lent g left) (written (orderingOf ds (length lent))) f answer h (h .finding) (ordering-narrow ds (length lent)) e
+
+pub type-told : (xs lent left : List ℕ) (f : Finding ℕ) (answer : ℕ) → TypePromise xs lent f left → answer ≡ writtenAnswer f
+    → (answer ≡ writtenAnswer (written (typingOf xs (length lent))))
+    × ((unpackWritten answer ≡ told (written (typingOf xs (length lent))))
+    × ((g : Finding ℕ) → unpackWritten answer ≡ told g → TypePromise xs lent g left))
+type-told xs lent left f answer h e =
+    written-told (λ g. TypePromise xs lent g left) (written (typingOf xs (length lent))) f answer h (h .finding) (typing-narrow xs (length lent)) e

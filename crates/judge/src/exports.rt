@@ -1,5 +1,5 @@
-// What programs in C and Rust link: reading a pattern, judging a model, judging a tableau and putting an
-// older model file in order, over byte slices. Each answers one number, a packed finding. Packing loses
+// What programs in C and Rust link: reading a pattern, judging a model, judging a tableau, putting an
+// older model file in order and typing a pattern, over byte slices. Each answers one number, a packed finding. Packing loses
 // nothing: taken apart, the answer tells the finding (each function's clause `finding`), and of what it
 // tells the promise holds (`promise`). How much area a model wants is asked beside them, and answered as
 // it is.
@@ -9,9 +9,11 @@ use answers::model_answer;
 use answers::order_answer;
 use answers::read_answer;
 use answers::tableau_answer;
+use answers::type_answer;
 use model_judge::area_wanted;
 use model_order::put_in_order;
 use pattern_read::read;
+use typing::type_pattern;
 ghost use mathlib.Core.Path.{_≡_};
 ghost use Prim.Native.Nat.{ℕ, _≤_};
 ghost use lib.ListN.{length};
@@ -23,6 +25,7 @@ ghost use Rattle.model_order.specs.Ordering.{orderingOf, OrderPromise};
 ghost use Rattle.tableau.specs.declared.finding.Closed.{Closed};
 ghost use Rattle.tableau.specs.Judging as tableau-specs;
 ghost use Rattle.tableau.specs.Closure.{Excluded};
+ghost use Rattle.typing.specs.Typing.{typingOf, TypePromise};
 ghost use Rattle.answers.specs.Packed.{metKind, closedKind, answerKind, readAnswer, modelAnswer, tableauAnswer, writtenAnswer};
 ghost use Rattle.answers.specs.Unpacked.{told, unpackRead, unpackModel, unpackTableau, unpackWritten};
 ghost use Rattle.judge.specs.Promises.{NeverMet, NeverClosed, ModelPromise, TableauPromise};
@@ -79,4 +82,15 @@ pub extern "C" fn riser_order(d: &[u8], out: &mut [u8]) -> u64
     ensures promise { λ r. ⌜ ((f : Finding ℕ) → unpackWritten r ≡ told f → OrderPromise (now (d .entry)) (now (out .entry)) f (now (out .exit))) ⌝ }
 {
     order_answer(put_in_order(d, out))
+}
+
+// Types a pattern: its file stands at the front of the destination, and at every node of every model the
+// file's root holds exactly where the text does.
+#[no_mangle]
+pub extern "C" fn riser_type(text: &[u8], out: &mut [u8]) -> u64
+    ensures answer { λ r. ⌜ r ≡ writtenAnswer (written (typingOf (now (text .entry)) (length (now (out .entry))))) ⌝ }
+    ensures finding { λ r. ⌜ unpackWritten r ≡ told (written (typingOf (now (text .entry)) (length (now (out .entry))))) ⌝ }
+    ensures promise { λ r. ⌜ ((f : Finding ℕ) → unpackWritten r ≡ told f → TypePromise (now (text .entry)) (now (out .entry)) f (now (out .exit))) ⌝ }
+{
+    type_answer(type_pattern(text, out))
 }

@@ -104,11 +104,11 @@ module _ (b s : State) (four : Four s) (g : Grown b s) where
   unfolding madeBy
   item-made f v rest under l is top = (
     subst (λ (items : List ℕ). RowBuilt b (taken 47 v (on s items)) under (entry (tree 8 (number v) rest unused))) (sym top)
-    (row-cell (on s (rowItem f ∷ under)) four (path 1 8 v (rowItem f / 2)) 8 refl (omega arith) (number v) rest unused (number-field s v l) (half-field s f rest is) (zero-field s) b
-    (grown-on b s _ g (grown-none s _)) refl under refl),
+        (row-cell (on s (rowItem f ∷ under)) four (path 1 8 v (rowItem f / 2)) 8 refl (omega arith) (number v) rest unused (number-field s v l) (half-field s f rest is) (zero-field s) b
+        (grown-on b s _ g (grown-none s _)) refl under refl),
     subst (λ (items : List ℕ). RowBuilt b (taken 64 v (on s items)) under (entry (tree 9 (number v) rest unused))) (sym top)
-    (row-cell (on s (rowItem f ∷ under)) four (path 1 9 v (rowItem f / 2)) 9 refl (omega arith) (number v) rest unused (number-field s v l) (half-field s f rest is) (zero-field s) b
-    (grown-on b s _ g (grown-none s _)) refl under refl),
+        (row-cell (on s (rowItem f ∷ under)) four (path 1 9 v (rowItem f / 2)) 9 refl (omega arith) (number v) rest unused (number-field s v l) (half-field s f rest is) (zero-field s) b
+        (grown-on b s _ g (grown-none s _)) refl under refl),
   )
 
   test-made : (c f : ℕ) (t : Tree) (rest : Part) (under : List ℕ) → c < s .count → CellIs (s .cells) c t → FieldIs (s .cells) (s .count) f rest
@@ -218,6 +218,7 @@ brace-built b r s w P Q rest under behind goes-second goes-first =
 
 mutual
   unfolding madeBy marksBy
+
   node-built : (t : NodeText) (i : ℕ) (ys : List Token) → InRange (nodeTokens t i ys)
       → NodeBuilt (run ys) (run (nodeTokens t i ys)) (nodeTree t) × InRange ys
   node-built (NodeText.property k) i ys h =
@@ -240,26 +241,34 @@ mutual
       (after-made (run ys) _ (a .0 .four) (a .0 .grown) (a .0 .cell) (nodeTree t) (omega (arith, a .0 .last)) (a .0 .is) (a .0 .on-top) (valueOf k) (omega (arith, h .0)), a .1)
   node-built (NodeText.same r k q) i ys h =
       let a = row-built r _ _ (h .1) in
-      let b = row-built q _ _ (a .1 .1) in
-      (compare-over (run ys) _ _ (1536 + valueOf k) 5 (valueOf k) _ _ (b .0 255 (run ys .items) (number 255) refl end-field)
-      (a .0 255 _ (number 255) refl end-field) (omega (arith, a .1 .0)) (omega arith) (omega (arith, a .1 .0)), b .1 .1)
+      let b = row-built q _ _ (a .1 .1) in (
+        compare-over (run ys) _ _ (1536 + valueOf k) 5 (valueOf k) _ _ (b .0 255 (run ys .items) (number 255) refl end-field)
+            (a .0 255 _ (number 255) refl end-field) (omega (arith, a .1 .0)) (omega arith) (omega (arith, a .1 .0)),
+        b .1 .1,
+      )
   node-built (NodeText.differ r k q) i ys h =
       let a = row-built r _ _ (h .1) in
-      let b = row-built q _ _ (a .1 .1) in
-      (compare-over (run ys) _ _ (1792 + valueOf k) 6 (valueOf k) _ _ (b .0 255 (run ys .items) (number 255) refl end-field)
-      (a .0 255 _ (number 255) refl end-field) (omega (arith, a .1 .0)) (omega arith) (omega (arith, a .1 .0)), b .1 .1)
+      let b = row-built q _ _ (a .1 .1) in (
+        compare-over (run ys) _ _ (1792 + valueOf k) 6 (valueOf k) _ _ (b .0 255 (run ys .items) (number 255) refl end-field)
+            (a .0 255 _ (number 255) refl end-field) (omega (arith, a .1 .0)) (omega arith) (omega (arith, a .1 .0)),
+        b .1 .1,
+      )
 
   row-built : (r : RowText) (i : ℕ) (ys : List Token) → InRange (rowTokens r i ys)
       → Goes (run ys) (run (rowTokens r i ys)) (λ rest. rowTree r rest) × InRange ys
   row-built RowText.end i ys h = (λ f under rest top is. record { four = run-four ys; grown = self (run ys); field = f; on-top = top; is = is }, h)
   row-built (RowText.step k r) i ys h =
-      let a = row-built r _ ys (h .1) in
-      (λ f under rest top is. let b = a .0 f under rest top is in
-          item-made (run ys) _ (b .four) (b .grown) (b .field) (valueOf k) (rowTree r rest) under (omega (arith, h .0)) (b .is) (b .on-top) .0, a .1)
+      let a = row-built r _ ys (h .1) in (
+        λ f under rest top is. let b = a .0 f under rest top is in
+            item-made (run ys) _ (b .four) (b .grown) (b .field) (valueOf k) (rowTree r rest) under (omega (arith, h .0)) (b .is) (b .on-top) .0,
+        a .1,
+      )
   row-built (RowText.jump k r) i ys h =
-      let a = row-built r _ ys (h .1) in
-      (λ f under rest top is. let b = a .0 f under rest top is in
-          item-made (run ys) _ (b .four) (b .grown) (b .field) (valueOf k) (rowTree r rest) under (omega (arith, h .0)) (b .is) (b .on-top) .1, a .1)
+      let a = row-built r _ ys (h .1) in (
+        λ f under rest top is. let b = a .0 f under rest top is in
+            item-made (run ys) _ (b .four) (b .grown) (b .field) (valueOf k) (rowTree r rest) under (omega (arith, h .0)) (b .is) (b .on-top) .1,
+        a .1,
+      )
   row-built (RowText.test t r) i ys h =
       let a = node-built t _ _ (h .1) in
       let b = row-built r _ ys (a .1) in
@@ -267,9 +276,11 @@ mutual
   row-built (RowText.brace p q r) i ys h =
       let a = row-built p _ _ (h .1) in
       let b = row-built q _ _ (a .1 .1) in
-      let c = row-built r _ ys (b .1 .1) in
-      (λ f under rest top is.
-          brace-built (run ys) _ _ _ (λ x. rowTree p x) (λ x. rowTree q x) (rowTree r rest) under (c .0 f under rest top is) (b .0) (a .0), c .1)
+      let c = row-built r _ ys (b .1 .1) in (
+        λ f under rest top is.
+            brace-built (run ys) _ _ _ (λ x. rowTree p x) (λ x. rowTree q x) (rowTree r rest) under (c .0 f under rest top is) (b .0) (a .0),
+        c .1,
+      )
 
 -- ---- tokens as numbers
 limit-either : (t : Bool) (a b : ℕ) → a ≤ 127 → b ≤ 127 → pick t a b ≤ 127
@@ -322,3 +333,18 @@ text-built t h =
       root = subst (λ (c : ℕ). CellIs (run (tokensOf t) .cells) c (nodeTree t)) cell (n .is);
       four-each = n .four;
     })
+
+-- a token makes one cell at most
+pub built-few : (ws : List ℕ) → builtOf ws .count ≤ length ws
+unfolding builtOf builtFrom takenWord start
+built-few [] = omega arith
+built-few (w ∷ ws) = go (eqb (madeBy (w / 256) (w % 256) (getD (s .items) 0 0) (getD (s .items) 1 0) (getD (s .items) 2 0) .kind) 0) (built-few ws)
+  where
+    s : State
+    s = builtFrom start ws
+
+    go : (t : Bool) → s .count ≤ length ws
+        → pick t (withMarks (marksBy (w / 256) (w % 256) (getD (s .items) 0 0) (getD (s .items) 1 0)) s)
+        (withCell (madeBy (w / 256) (w % 256) (getD (s .items) 0 0) (getD (s .items) 1 0) (getD (s .items) 2 0)) s) .count ≤ suc (length ws)
+    go true h = omega (arith, h)
+    go false h = omega (arith, h)

@@ -37,8 +37,7 @@ mutual
   pub cell-more : (t : Tree) (cells more : List ℕ) (c : ℕ) → CellIs cells c t → CellIs (cells ++ more) c t
   cell-more (tree k x y z) cells more c h =
       let at : (j : ℕ) → j < 4 → getD (cells ++ more) (4 * c + j) 0 ≡ getD cells (4 * c + j) 0
-      = λ j l. List·getD-append cells more 0 (4 * c + j) (omega (arith, h .0)) in
-      (
+      = λ j l. List·getD-append cells more 0 (4 * c + j) (omega (arith, h .0)) in (
         omega (arith, h .0, length-append cells more),
         (List·getD-append cells more 0 (4 * c) (omega (arith, h .0)) ∙ h .1 .0, h .1 .1),
         subst (λ (f : ℕ). FieldIs (cells ++ more) c f x) (sym (at 1 (omega arith))) (field-more x cells more c c _ (omega arith) (h .2)),
@@ -134,8 +133,7 @@ module _ (s : State) (four : Four s) (m : Made) (k : ℕ) (kind : m .kind ≡ k)
   new-cell : CellIs (s .cells ++ four-numbers) (s .count) (tree k x y z)
   new-cell =
       let lift : (f : ℕ) (p : Part) → FieldIs (s .cells) (s .count) f p → FieldIs (s .cells ++ four-numbers) (s .count) f p
-      = λ f p h. field-more p (s .cells) four-numbers (s .count) (s .count) f (omega arith) h in
-      (
+      = λ f p h. field-more p (s .cells) four-numbers (s .count) (s .count) f (omega arith) h in (
         omega (arith, four, length-append (s .cells) four-numbers),
         (ap (λ (n : ℕ). getD (s .cells ++ four-numbers) n 0) (sym (add-zero (4 * s .count))) ∙ number-at 0 ∙ kind, few),
         subst (λ (f : ℕ). FieldIs (s .cells ++ four-numbers) (s .count) f x) (sym (number-at 1)) (lift (m .x) x xs),
@@ -172,3 +170,20 @@ module _ (s : State) (four : Four s) (m : Made) (k : ℕ) (kind : m .kind ≡ k)
         ∙ ap (λ (n : ℕ). n ∷ drop (m .takes) (s .items)) (add-zero (2 * (256 + s .count))) ∙ ap (λ (l : List ℕ). rowItem (256 + s .count) ∷ l) e;
     is = (s .count, (refl, omega arith, new-cell));
   }
+
+-- a cell is one tree
+mutual
+  pub cell-once : (t u : Tree) (cells : List ℕ) (c : ℕ) → CellIs cells c t → CellIs cells c u → t ≡ u
+  cell-once (tree k x y z) (tree l a b d) cells c h g =
+      let xs = field-once x a cells c _ (h .2) (g .2) in
+      let ys = field-once y b cells c _ (h .3) (g .3) in
+      let zs = field-once z d cells c _ (h .4) (g .4) in
+      λ i. tree ((sym (h .1 .0) ∙ g .1 .0) i) (xs i) (ys i) (zs i)
+
+  field-once : (p q : Part) (cells : List ℕ) (m f : ℕ) → FieldIs cells m f p → FieldIs cells m f q → p ≡ q
+  field-once (number v) (number w) cells m f h g = ap number (sym (h .0) ∙ g .0)
+  field-once (number v) (entry u) cells m f h g = absurd (omega (arith, h .1, g .1 .0))
+  field-once (entry t) (number w) cells m f h g = absurd (omega (arith, h .1 .0, g .1))
+  field-once (entry t) (entry u) cells m f h g =
+      let same : h .0 ≡ g .0 = omega (arith, h .1 .0, g .1 .0) in
+      ap entry (cell-once t u cells (g .0) (subst (λ (c : ℕ). CellIs cells c t) same (h .1 .2)) (g .1 .2))

@@ -216,8 +216,8 @@ module _ (word count : ℕ) (cells items : List ℕ) (at : ℕ) where
     cell-took m e h fits =
         subst
         (λ (m : Made).
-            Took word cells count items at (at + m .takes - 1) (count + 1) (putFrom cells (4 * count) 0 (m .kind ∷ m .x ∷ m .y ∷ m .z ∷ []))
-            (set items (at + m .takes - 1) (2 * (256 + count) + m .tag)))
+        Took word cells count items at (at + m .takes - 1) (count + 1) (putFrom cells (4 * count) 0 (m .kind ∷ m .x ∷ m .y ∷ m .z ∷ []))
+        (set items (at + m .takes - 1) (2 * (256 + count) + m .tag)))
         (sym e) (took-cell (λ k. h (ap (λ (m : Made). m .kind) e ∙ k)) fits)
 
 -- the tokens from the last down to i are taken

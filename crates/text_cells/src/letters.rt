@@ -19,13 +19,27 @@ pub struct Made {
 fn node(takes: usize, kind: u16, x: u16, y: u16, z: u16) -> Made
     ensures { λ r. ⌜ r ≡ node takes kind x y z ⌝ }
 {
-    Made { takes, tag: 1, kind, x, y, z }
+    Made {
+        takes,
+        tag: 1,
+        kind,
+        x,
+        y,
+        z,
+    }
 }
 
 fn path(takes: usize, kind: u16, x: u16, y: u16) -> Made
     ensures { λ r. ⌜ r ≡ path takes kind x y ⌝ }
 {
-    Made { takes, tag: 0, kind, x, y, z: 0 }
+    Made {
+        takes,
+        tag: 0,
+        kind,
+        x,
+        y,
+        z: 0,
+    }
 }
 
 // The cell that a letter makes of its number and of the three items on top of the stack; kind 0 where it

@@ -46,7 +46,13 @@ fn store(cells: &mut [u16; CELLS], count: u16, kind: u16, x: u16, y: u16, z: u16
 }
 
 // One token.
-fn take(word: u16, cells: &mut [u16; CELLS], count: u16, items: &mut [u16; ITEMS], at: usize) -> Built
+fn take(
+    word: u16,
+    cells: &mut [u16; CELLS],
+    count: u16,
+    items: &mut [u16; ITEMS],
+    at: usize,
+) -> Built
     requires { ⌜ (length (now items) ≡ 4099) × (2 ≤ at) × (at ≤ 4096) × (count < 1024) ⌝ }
     ensures { λ r. ⌜ Took word (now (cells .entry)) count (now (items .entry)) at (r .at) (r .count) (now (cells .exit)) (now (items .exit)) ⌝ }
 {
@@ -57,12 +63,18 @@ fn take(word: u16, cells: &mut [u16; CELLS], count: u16, items: &mut [u16; ITEMS
         let marks = marks_by(letter, value, items[at], items[at + 1]);
         items[at - 1] = marks.under;
         items[at - 2] = marks.upper;
-        return Built { at: at - marks.puts, count };
+        return Built {
+            at: at - marks.puts,
+            count,
+        };
     }
     store(cells, count, made.kind, made.x, made.y, made.z);
     let above = at + made.takes - 1;
     items[above] = 2 * (256 + count) + made.tag;
-    Built { at: above, count: count + 1 }
+    Built {
+        at: above,
+        count: count + 1,
+    }
 }
 
 // Makes the cells of the first n tokens, and answers how many they are; the root's is the last.

@@ -88,7 +88,7 @@ pub record Grown (es fs : List Entry) : Type 0 where
   pub new : List Entry
   pub is : fs ≡ es ++ new
 
-grown-on : (es fs gs : List Entry) → Grown es fs → Grown fs gs → Grown es gs
+pub grown-on : (es fs gs : List Entry) → Grown es fs → Grown fs gs → Grown es gs
 grown-on es fs gs a b =
     record { new = a .new ++ b .new; is = b .is ∙ (ap (λ (l : List Entry). l ++ b .new) (a .is) ∙ append-assoc es (a .new) (b .new)) }
 

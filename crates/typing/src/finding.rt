@@ -1,4 +1,6 @@
 // What typing a pattern finds.
+ghost use mathlib.Core.Path.{_≡_};
+ghost use Rattle.typing.specs.Typing.{refusalNumber, refusalPlace};
 
 // The refusals, document 02's 30 to 32: a text that is too long, or that leaves the grammar at a place;
 // a number out of range, at the place of its first digit; too many entries, or a destination that is
@@ -11,8 +13,7 @@ pub enum TypeRefusal {
 
 impl TypeRefusal {
     // The documents' number of the refusal.
-    pub fn number(self) -> u8
-    {
+    pub fn number(self) -> u8 {
         match self {
             TypeRefusal::Grammar(_) => 30,
             TypeRefusal::Range(_) => 31,
@@ -21,8 +22,7 @@ impl TypeRefusal {
     }
 
     // Its place in the text, or 0.
-    pub fn place(self) -> u16
-    {
+    pub fn place(self) -> u16 {
         match self {
             TypeRefusal::Grammar(place) => place,
             TypeRefusal::Range(place) => place,

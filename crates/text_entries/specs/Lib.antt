@@ -1,0 +1,5 @@
+-- In the order of reading.
+pub mod Placing
+pub mod Completing
+pub mod Opening
+pub mod Stack
