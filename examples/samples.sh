@@ -1,26 +1,41 @@
 #!/bin/sh
-# Judges the sample files, or those of the folders named, with the bench program, which is proved and
-# built first where that is still to be done. Prints each folder's name and the program's line.
+# Judges the sample files, or those of the folders named, with the bench program, and types the sample texts with the
+# typist; both are proved and built first where that is still to be done. Prints the name of each folder or text and the
+# program's line.
 set -eu
 started=$(pwd)
 root=$(cd "$(dirname "$0")/.." && pwd)
 cd "$root"
 mkdir -p target
-echo "proving and building the bench program (some six minutes, the first time)" >&2
-if ! rt check bench >target/samples.log 2>&1; then
-    echo "samples.sh: rt check bench failed; target/samples.log says why" >&2
+echo "proving and building the bench program and the typist (some seven minutes, the first time)" >&2
+if ! rt check bench typist >target/samples.log 2>&1; then
+    echo "samples.sh: rt check bench typist failed; target/samples.log says why" >&2
     exit 1
 fi
-if [ $# -gt 0 ]; then
-    cd "$started"
-else
-    set -- crates/readings/data/*/
-fi
-for folder; do
-    if [ ! -d "$folder" ]; then
-        echo "samples.sh: $folder: no such folder" >&2
+
+judge() {
+    if [ ! -d "$1" ]; then
+        echo "samples.sh: $1: no such folder" >&2
         exit 1
     fi
-    printf '%s: ' "$(basename "$folder")"
-    (cd "$folder" && "$root/target/bin/bench")
+    printf '%s: ' "$(basename "$1")"
+    (cd "$1" && "$root/target/bin/bench")
+}
+
+if [ $# -gt 0 ]; then
+    cd "$started"
+    for folder; do
+        judge "$folder"
+    done
+    exit
+fi
+data=$root/crates/readings/data
+for folder in "$data"/*/; do
+    [ "$folder" = "$data/texts/" ] || judge "$folder"
+done
+typed=$(mktemp -d)
+trap 'rm -rf "$typed"' EXIT
+for text in "$data"/texts/*.txt; do
+    printf 'texts/%s: ' "$(basename "$text" .txt)"
+    (cd "$typed" && "$root/target/bin/typist" "$text")
 done

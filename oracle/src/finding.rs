@@ -40,8 +40,8 @@ pub struct Refusal {
     pub place: u16,
 }
 
-/// The line that the bench program prints (`read` with the count, and `written` and `area` with the length, which it
-/// never prints).
+/// The line that the bench program or the typist prints (`read` with the count and `area` with the length, which neither
+/// prints).
 impl fmt::Display for Finding {
     fn fmt(&self, f: &mut fmt::Formatter<'_>) -> fmt::Result {
         match self {

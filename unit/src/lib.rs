@@ -169,7 +169,7 @@ fn unpacked(answer: u64) -> Finding {
     }
 }
 
-/// The line that the bench program prints (`read` with the count and `written` with the length, which it never prints).
+/// The line that the bench program or the typist prints (`read` with the count, which neither prints).
 impl fmt::Display for Finding {
     fn fmt(&self, f: &mut fmt::Formatter<'_>) -> fmt::Result {
         match self {

@@ -1,19 +1,24 @@
 //! The wrapper on the sample files: each line is the one that `crates/readings/stdout` has.
 
+use std::collections::HashMap;
 use std::fs;
 use std::path::{Path, PathBuf};
 
-use unit::{Finding, MODEL_AREA, MODEL_LONGEST, TABLEAU_AREA};
+use unit::{Finding, MODEL_AREA, MODEL_LONGEST, PATTERN_LONGEST, TABLEAU_AREA};
+
+/// The samples that are named in a list, with their lines.
+fn listed_in(list: &str) -> Vec<(PathBuf, String)> {
+    let readings = Path::new(env!("CARGO_MANIFEST_DIR")).join("../crates/readings");
+    let read = |file: &str| fs::read_to_string(readings.join(file)).expect(file);
+    let (names, stdout) = (read(&format!("data/{list}")), read("stdout"));
+    let lines = stdout.lines().map(|line| line.split_once(": ").expect("name: finding"));
+    let lines: HashMap<&str, &str> = lines.collect();
+    names.lines().map(|name| (readings.join("data").join(name), lines[name].to_string())).collect()
+}
 
 /// The sample folders with the lines that are listed for them.
 fn listed() -> Vec<(PathBuf, String)> {
-    let readings = Path::new(env!("CARGO_MANIFEST_DIR")).join("../crates/readings");
-    let lines = fs::read_to_string(readings.join("stdout")).expect("crates/readings/stdout");
-    let sample = |line: &str| {
-        let (name, finding) = line.split_once(": ").expect("name: finding");
-        (readings.join("data").join(name), finding.to_string())
-    };
-    let samples: Vec<(PathBuf, String)> = lines.lines().map(sample).collect();
+    let samples = listed_in("samples.txt");
     assert!(samples.len() > 100);
     samples
 }
@@ -33,6 +38,30 @@ fn every_sample_is_judged_as_listed() {
             unit::judge_model(&pattern, &proposal, &mut [0; MODEL_AREA])
         };
         assert_eq!(finding.to_string(), line, "{}", folder.display());
+    }
+}
+
+/// A sample text, without one line feed at its end as the typist reads it, and its file, which has no bytes if it is
+/// refused.
+fn text_and_file(sample: &Path) -> [Vec<u8>; 2] {
+    let [mut text, file] =
+        ["txt", "bin"].map(|ending| fs::read(sample.with_extension(ending)).unwrap_or_default());
+    text.pop_if(|last| *last == b'\n');
+    [text, file]
+}
+
+#[test]
+fn every_text_is_typed_as_listed() {
+    let texts = listed_in("texts.txt");
+    assert!(texts.len() > 50);
+    for (sample, line) in texts {
+        let ([text, file], name) = (text_and_file(&sample), sample.display());
+        let mut destination = [7; PATTERN_LONGEST];
+        assert_eq!(unit::type_pattern(&text, &mut destination).to_string(), line, "{name}");
+        assert_eq!(line.starts_with("refused"), file.is_empty(), "{name}");
+        let (written, beyond) = destination.split_at(file.len());
+        assert_eq!(written, file, "{name}");
+        assert!(beyond.iter().all(|&byte| byte == 7), "{name}");
     }
 }
 

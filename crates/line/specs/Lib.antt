@@ -1,3 +1,4 @@
 pub mod Line
 pub mod Spelling
 pub mod Filling
+pub mod LineFeed

@@ -1,4 +1,4 @@
--- The bytes of the line that the bench program prints, for each report.
+-- The bytes of the line that a program prints, for each report.
 -- Assumes nothing.
 use mathlib.Core.List.{List, [], _∷_, _++_}
 use Prim.Native.Nat.{ℕ, zero, suc, _+_, _/_, _%_}
@@ -21,9 +21,11 @@ decimal n = digitsWithin (suc n) n
 abbrev pub number : ℕ → List ℕ
 number n = text " " ++ decimal n
 
--- "one line: `closed` and four counts, `met` node number, `unmet`, or `refused` number place"
+-- "one line: `closed` and four counts, `met` node number, `unmet`, or `refused` number place"; and of a typed pattern `written` length, or
+-- `refused` number place
 abbrev pub lineOf : Report → List ℕ
 lineOf (Report.Closed steps clashes forks most) = text "closed" ++ number steps ++ number clashes ++ number forks ++ number most ++ text "\n"
 lineOf (Report.Met lowest nodes) = text "met" ++ number lowest ++ number nodes ++ text "\n"
 lineOf Report.Unmet = text "unmet\n"
+lineOf (Report.Written length) = text "written" ++ number length ++ text "\n"
 lineOf (Report.Refused refusal place) = text "refused" ++ number refusal ++ number place ++ text "\n"

@@ -1,17 +1,20 @@
-// The line that the bench program prints, document 01's 'Bench program': filling a buffer with the line
-// of a report, byte for byte.
+// The line that a program prints, document 01's 'Bench program' and, of a typed pattern, document 02's
+// Job 7: filling a buffer with the line of a report, byte for byte. And a line that a program reads,
+// without its line feed.
 ghost use mathlib.Core.Path.{_≡_};
 ghost use mathlib.Core.List.{_++_};
 ghost use Prim.Native.Nat.{_+_, _≤_};
 ghost use lib.ListN.{length};
 ghost use Rattle.line.specs.Line.{number, lineOf};
 ghost use Rattle.line.specs.Filling.{putAt, LineFilled};
+ghost use Rattle.line.specs.LineFeed.{withoutLineFeed};
 
 // What the line that is printed says: its word and its numbers.
 pub enum Report {
     Closed(u16, u16, u16, u16),
     Met(u8, u8),
     Unmet,
+    Written(u16),
     Refused(u8, u16),
 }
 
@@ -65,9 +68,28 @@ pub fn fill(report: Report, buf: &mut [u8; LINE_BYTES]) -> usize
             put(b"\n", buf, end)
         }
         Report::Unmet => put(b"unmet\n", buf, 0),
+        Report::Written(length) => {
+            let number = put(b"written", buf, 0);
+            let end = put_number(length, buf, number);
+            put(b"\n", buf, end)
+        }
         Report::Refused(refusal, place) => {
             let end = put_pair(b"refused", refusal as u16, place, buf);
             put(b"\n", buf, end)
         }
     }
+}
+
+// What was read without one line feed at its end, if there is one: a person ends a line with it.
+pub fn without_line_feed(read: &[u8]) -> &[u8]
+    ensures { λ r. ⌜ now r ≡ withoutLineFeed (now (read .entry)) ⌝ }
+{
+    if read.len() == 0 {
+        return read;
+    }
+    let last = read.len() - 1;
+    if read[last] == 10 {
+        return &read[..last];
+    }
+    read
 }

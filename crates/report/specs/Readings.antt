@@ -1,20 +1,22 @@
 -- 01's bench readings A to J, and examples of 02's jobs, in one list, shown of the definitions by one result: what the program prints, what
--- reading a pattern gives, what judging every model gives, and what putting a file in order gives.
+-- reading a pattern gives, what judging every model gives, what putting a file in order gives and what typing a pattern gives.
 -- Assumes nothing.
 use mathlib.Core.Path.{_≡_, refl, sym, _∙_, ap, subst}
-use mathlib.Core.Bool.{false, false≢true}
+use mathlib.Core.Bool.{true, false, false≢true}
 use mathlib.Core.Logic.{_⊎_, inl, inr}
 use mathlib.Core.List.{List, [], _∷_, _++_}
 use Prim.Native.Nat.{ℕ, _≤_}
 use Prim.Native.String.{String}
-use lib.ListN.{replicate}
+use lib.Dec.{leb}
+use lib.ListN.{length, replicate}
+use borrow.Author.Tests.{leb-true, ltb-true}
 use Rattle.nodeset.specs.Below.{lowestBelow, countBelow}
 use Rattle.nodeset.specs.Lists.{listBelow}
 use Rattle.pattern.specs.declared.types.Comparison.{Comparison}
 use Rattle.pattern.specs.Logic.Syntax.{NExp}
 use Rattle.pattern.specs.Logic.Semantics.{Model, Naming, Holds}
 use Rattle.pattern.specs.Logic.Finite.{Finite, Named, modelOf, namingOf}
-use Rattle.pattern.specs.Checks.Finding.{found, refused, Check, passes, refuses, destinationAfter}
+use Rattle.pattern.specs.Checks.Finding.{Finding, found, refused, Check, passes, refuses, destinationAfter}
 use Rattle.pattern.specs.Checks.Range.{someBelow, eachBelow}
 use Rattle.pattern.specs.File.Fields.{eachField}
 use Rattle.pattern.specs.File.Entries.{sameBytes}
@@ -39,6 +41,12 @@ use Rattle.rules.specs.Rules.{ruleAt}
 use Rattle.steps.specs.Steps.{stepAt, stepsFrom, stepping}
 use Rattle.tableau.specs.Run.{run}
 use Rattle.tableau.specs.Judging as tableau
+use Rattle.typed_text.specs.Text as texts
+use Rattle.typed_text.specs.Text.{Numeral, NodeText, RowText}
+use Rattle.typed_text.specs.Machine.{placeOf, fault}
+use Rattle.typed_text.specs.Viable.{place-faulty}
+use Rattle.typing.specs.Typing as typing
+use Rattle.typing.specs.Findings.{typing-long, typing-text, typing-fault}
 use Rattle.wire.specs.Fields.{text}
 use Rattle.wire.specs.Onto.{onto}
 use Rattle.wire.specs.Cleared.{cleared}
@@ -278,8 +286,44 @@ Job6 =
     × Prints patternNeither (tableauFile 0 3 (parted ++ step 25 3 0 1)) "refused 20 2"
     × Prints patternNeither (tableauFile 0 3 (parted ++ step 26 1 0 0)) "refused 19 2"
 
+-- 02, Job 7: "each entry stands after its parts, which are completed in the order of its fields x, y, z; each different entry stands once, at
+-- its first completion; the root is last. .. A refusal leaves the destination unchanged; otherwise its length is given and only the file's bytes
+-- change. Turned away: 30, first, text over 1,024 bytes (place 0) or outside the grammar ..; 31, next, the first number out of range, place its
+-- first digit; 32, last, over 255 different entries or a destination too short." G typed, with room for just its file and with one byte less;
+-- a test's node before the rest of its row, a step behind it; what follows a brace, for both of its paths, once; an empty brace; an equal
+-- entry once. Each number at its limit, or one above it. A fault at the end, and 31 not before it; leading zeros; the empty text; a line
+-- feed; Job 8's `^`; 1,024 bytes that begin a text, and 1,025. What becomes of a destination of 12 bytes, and of one that is too short.
+abbrev pub Types : String → ℕ → ℕ → List ℕ → Type 0
+Types words room n entries = typing.typingOf (text words) room ≡ found (patternFile n entries)
+
+abbrev pub TurnsAway : String → ℕ → ℕ → Type 0
+TurnsAway words number place = typing.typingOf (text words) 1026 ≡ refused number place
+
+abbrev pub Job7 : Type 0
+Job7 =
+    (typing.typingOf (text "([/0=0/1]&[/0#0/1])") 26 ≡ found patternG)
+    × (typing.typingOf (text "([/0=0/1]&[/0#0/1])") 25 ≡ refused 32 0)
+    × Types "[/0?<0>p0/1=0]" 1026 6
+    (1 ∷ 0 ∷ 0 ∷ 0 ∷ 5 ∷ 0 ∷ 0 ∷ 0 ∷ 8 ∷ 1 ∷ 255 ∷ 0 ∷ 10 ∷ 1 ∷ 2 ∷ 0 ∷ 8 ∷ 0 ∷ 3 ∷ 0 ∷ 6 ∷ 0 ∷ 4 ∷ 255 ∷ [])
+    × Types "[{/0|/1}/2#1@5]" 1026 6
+    (8 ∷ 2 ∷ 255 ∷ 0 ∷ 8 ∷ 0 ∷ 0 ∷ 0 ∷ 8 ∷ 1 ∷ 0 ∷ 0 ∷ 11 ∷ 1 ∷ 2 ∷ 0 ∷ 9 ∷ 5 ∷ 255 ∷ 0 ∷ 7 ∷ 1 ∷ 3 ∷ 4 ∷ [])
+    × Types "[{|}=3]" 1026 2 (11 ∷ 255 ∷ 255 ∷ 0 ∷ 6 ∷ 3 ∷ 0 ∷ 255 ∷ [])
+    × Types "(p31|!p31)" 1026 3 (1 ∷ 31 ∷ 0 ∷ 0 ∷ 3 ∷ 0 ∷ 0 ∷ 0 ∷ 12 ∷ 0 ∷ 1 ∷ 0 ∷ [])
+    × TurnsAway "(n127&n128)" 31 7
+    × TurnsAway "[@128#4/8]" 31 2
+    × TurnsAway "(p32&" 30 5
+    × TurnsAway "p00" 30 2
+    × TurnsAway "[=00]" 30 3
+    × TurnsAway "" 30 0
+    × TurnsAway "p0\n" 30 2
+    × TurnsAway "[^0=0]" 30 1
+    × (typing.typingOf (replicate 1024 33) 1026 ≡ refused 30 1024)
+    × (typing.typingOf (replicate 1025 33) 1026 ≡ refused 30 0)
+    × (destinationAfter (typing.typingOf (text "p7") 12) (replicate 12 9) ≡ patternFile 1 (1 ∷ 7 ∷ 0 ∷ 0 ∷ []) ++ (9 ∷ 9 ∷ []))
+    × (destinationAfter (typing.typingOf (text "p7") 9) (replicate 9 9) ≡ replicate 9 9)
+
 abbrev pub readings : List (Type 0)
-readings = A ∷ B ∷ C ∷ D ∷ E ∷ F ∷ G ∷ H ∷ I ∷ J ∷ Job1 ∷ Job2 ∷ Job3 ∷ Job4 ∷ Job5 ∷ Job6 ∷ []
+readings = A ∷ B ∷ C ∷ D ∷ E ∷ F ∷ G ∷ H ∷ I ∷ J ∷ Job1 ∷ Job2 ∷ Job3 ∷ Job4 ∷ Job5 ∷ Job6 ∷ Job7 ∷ []
 
 -- ---- laws
 
@@ -326,6 +370,64 @@ I-holds = (always-unmet, files, any)
         go passes e = let ok = checks-pass Order.Rising patternI ds size .0 e in inl (files ds size (ok .2) (ok .3) (ok .1))
         go (refuses number place) e = inr (number, (place, judging-refuses patternI ds size number place e))
 
+-- ---- typed texts, by their trees
+-- a text is typed as its tree is
+by-tree : (t : NodeText) (xs : List ℕ) (room : ℕ) (f : Finding (List ℕ)) → texts.node t [] ≡ xs → leb (length xs) 1024 ≡ true → typing.textWithin t room ≡ f
+    → typing.typingOf xs room ≡ f
+by-tree t xs room f e short h = typing-text xs room (leb-true (length xs) 1024 short) t e ∙ h
+
+-- and bytes outside the grammar by the automaton's place
+by-place : (xs : List ℕ) (room k : ℕ) → leb (length xs) 1024 ≡ true → placeOf xs ≡ fault k → typing.typingOf xs room ≡ refused 30 k
+by-place xs room k short h = typing-fault xs room (leb-true (length xs) 1024 short) k (place-faulty xs k h)
+
+-- numbers of the texts
+abbrev zero : Numeral
+zero = Numeral.nought
+
+abbrev digit : (d : ℕ) → texts.beginsNumber d ≡ true → Numeral
+digit d p = Numeral.from d [] p refl
+
+abbrev one : Numeral
+one = digit 49 refl
+
+abbrev two : Numeral
+two = digit 50 refl
+
+abbrev p31 : NodeText
+p31 = NodeText.property (Numeral.from 51 (49 ∷ []) refl refl)
+
+-- a row of one step
+abbrev stepOn : Numeral → RowText
+stepOn k = RowText.step k RowText.end
+
+abbrev textG : NodeText
+textG = NodeText.both (NodeText.same (stepOn zero) zero (stepOn one)) (NodeText.differ (stepOn zero) zero (stepOn one))
+
+Job7-holds : Job7
+unfolding typing.textWithin typing.fileWithin onto
+Job7-holds = (
+  by-tree textG _ 26 _ refl refl refl,
+  by-tree textG _ 25 _ refl refl refl,
+  by-tree
+      (NodeText.same (RowText.step zero (RowText.test (NodeText.after zero (NodeText.property zero)) (stepOn one))) zero RowText.end) _ 1026 _ refl refl refl,
+  by-tree (NodeText.differ (RowText.brace (stepOn zero) (stepOn one) (stepOn two)) one (RowText.jump (digit 53 refl) RowText.end)) _ 1026 _ refl refl refl,
+  by-tree (NodeText.same (RowText.brace RowText.end RowText.end RowText.end) (digit 51 refl) RowText.end) _ 1026 _ refl refl refl,
+  by-tree (NodeText.either p31 (NodeText.not p31)) _ 1026 _ refl refl refl,
+  by-tree
+      (NodeText.both (NodeText.name (Numeral.from 49 (50 ∷ 55 ∷ []) refl refl)) (NodeText.name (Numeral.from 49 (50 ∷ 56 ∷ []) refl refl))) _ 1026 _ refl refl refl,
+  by-tree (NodeText.differ (RowText.jump (Numeral.from 49 (50 ∷ 56 ∷ []) refl refl) RowText.end) (digit 52 refl) (stepOn (digit 56 refl))) _ 1026 _ refl refl refl,
+  by-place _ 1026 5 refl refl,
+  by-place _ 1026 2 refl refl,
+  by-place _ 1026 3 refl refl,
+  by-place _ 1026 0 refl refl,
+  by-place _ 1026 2 refl refl,
+  by-place _ 1026 1 refl refl,
+  by-place (replicate 1024 33) 1026 1024 refl refl,
+  typing-long (replicate 1025 33) 1026 (ltb-true 1024 (length {A = ℕ} (replicate 1025 33)) refl),
+  ap (λ (f : Finding (List ℕ)). destinationAfter f (replicate 12 9)) (by-tree (NodeText.property (digit 55 refl)) _ 12 _ refl refl refl),
+  ap (λ (f : Finding (List ℕ)). destinationAfter f (replicate 9 9)) (by-tree (NodeText.property (digit 55 refl)) _ 9 _ refl refl refl),
+)
+
 pub readings-hold : All readings
 unfolding readingOf patternCheck headerCheck entryCheck rootCheck eachField someBelow eachBelow sameBytes judgingBy judgingCheck namesCheck modelCheck file.headerCheck nameCheck edgeCheck orderCheck recordCheck comesBefore isListed nodeAt nodeWithin pathWithin holdsTest leadsTest judgedBy lowestBelow countBelow leadsIn nodeNamed tableau.judgingOf tableau.judgingCheck tableau.headerCheck tableau.runOf run stepping ruleAt stepAt stepsFrom branchHas usesName digitsWithin listBelow edgesOf frontOf orderedFile fileWithin orderingOf onto cleared
-readings-hold = (refl, (refl, (refl, (refl, (refl, (refl, (refl, (refl, (I-holds, ((refl, refl, refl, refl), ((refl, refl, refl, refl, refl), ((refl, refl, refl, refl), ((refl, refl, refl, refl, refl, refl, refl, refl, refl), ((refl, refl, refl, refl, refl, refl, refl, refl, refl, refl), ((refl, refl, refl, refl, refl, refl, refl, refl, refl, refl, refl, refl), ((refl, refl, refl, refl, refl, refl, refl, refl, refl, refl, refl, refl, refl, refl), tt))))))))))))))))
+readings-hold = (refl, (refl, (refl, (refl, (refl, (refl, (refl, (refl, (I-holds, ((refl, refl, refl, refl), ((refl, refl, refl, refl, refl), ((refl, refl, refl, refl), ((refl, refl, refl, refl, refl, refl, refl, refl, refl), ((refl, refl, refl, refl, refl, refl, refl, refl, refl, refl), ((refl, refl, refl, refl, refl, refl, refl, refl, refl, refl, refl, refl), ((refl, refl, refl, refl, refl, refl, refl, refl, refl, refl, refl, refl, refl, refl), (Job7-holds, tt)))))))))))))))))

@@ -1,6 +1,8 @@
 // The line that the bench program prints of a pattern and a proposal, document 01's 'Bench program'. It
 // is proved to be the line of what judging finds, byte for byte; that it is written, and what was
-// read, is not.
+// read, is not. `typed` has the like of a typed pattern.
+pub mod typed;
+
 use judge::AREA;
 use judge::judge_model;
 use judge::judge_tableau;

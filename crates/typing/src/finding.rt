@@ -13,7 +13,9 @@ pub enum TypeRefusal {
 
 impl TypeRefusal {
     // The documents' number of the refusal.
-    pub fn number(self) -> u8 {
+    pub fn number(self) -> u8
+        ensures { λ r. ⌜ r ≡ refusalNumber self ⌝ }
+    {
         match self {
             TypeRefusal::Grammar(_) => 30,
             TypeRefusal::Range(_) => 31,
@@ -22,7 +24,9 @@ impl TypeRefusal {
     }
 
     // Its place in the text, or 0.
-    pub fn place(self) -> u16 {
+    pub fn place(self) -> u16
+        ensures { λ r. ⌜ r ≡ refusalPlace self ⌝ }
+    {
         match self {
             TypeRefusal::Grammar(place) => place,
             TypeRefusal::Range(place) => place,

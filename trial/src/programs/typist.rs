@@ -67,7 +67,12 @@ fn generated() -> Vec<Typed> {
         let words = format!("input {number} of seed {SEED}");
         (input.operation == Operation::Typing).then(|| whole(words, &input.pattern))
     });
-    inputs.take(GENERATED).collect()
+    inputs.take(GENERATED).flat_map(|typed| [line(&typed), typed]).collect()
+}
+
+/// A text as a person ends it, with a line feed.
+fn line(typed: &Typed) -> Typed {
+    whole(format!("{} and a line feed", typed.words), &[&typed.text[..], b"\n"].concat())
 }
 
 /// No text, each byte by itself, texts at the limit and over it, some of them far over.
@@ -76,8 +81,8 @@ fn odd() -> Vec<Typed> {
     let lengths = [1023, 1024, 1025, 1026, 4096, 65_536, 65_538, 1_000_000];
     let nodes = lengths.map(|length| whole(format!("a node of {length} bytes"), &exactly(length)));
     let nots = lengths.map(|length| whole(format!("{length} nots"), &vec![b'!'; length]));
-    let lines =
-        ["p0\n", "p0\r\n", "p0 ", "\np0", "p0\0"].map(|text| whole(format!("{text:?}"), text.as_bytes()));
+    let lines = ["p0\n", "p0\n\n", "p0\r\n", "p0 ", "\np0", "p0\0"]
+        .map(|text| whole(format!("{text:?}"), text.as_bytes()));
     let none = [whole("no text".to_string(), b"")];
     bytes.chain(nodes).chain(nots).chain(lines).chain(none).collect()
 }
@@ -101,10 +106,11 @@ fn whole(words: String, text: &[u8]) -> Typed {
     Typed { words, text: text.to_vec(), at_once: text.len() }
 }
 
-/// What the program should print, and what should stand in the file's place then.
-fn expected(text: &[u8], before: Option<&[u8]>) -> String {
+/// What the program should print, and what should stand in the file's place then. One line feed at the end is no part
+/// of the text.
+fn expected(read: &[u8], before: Option<&[u8]>) -> String {
     let mut destination = [0; PATTERN_LONGEST];
-    let finding = type_pattern(text, &mut destination);
+    let finding = type_pattern(read.strip_suffix(b"\n").unwrap_or(read), &mut destination);
     let after = match finding {
         Finding::Written { length } => Some(&destination[..length.into()]),
         _ => before,

@@ -62,6 +62,24 @@ put-requires-3 c κs = search needs
 enum-known-report-3 : tie.Need-enum-known-report-3
 enum-known-report-3 c = search needs
 
+slice-aggregate-put-4 : tie.Need-slice-aggregate-put-4
+slice-aggregate-put-4 c = search needs
+
+put-requires-4 : tie.Need-put-requires-4
+put-requires-4 c κs = search needs
+
+put-number-requires-3 : tie.Need-put-number-requires-3
+put-number-requires-3 c κs = search needs
+
+slice-aggregate-put-5 : tie.Need-slice-aggregate-put-5
+slice-aggregate-put-5 c = search needs
+
+put-requires-5 : tie.Need-put-requires-5
+put-requires-5 c κs = search needs
+
+enum-known-report-4 : tie.Need-enum-known-report-4
+enum-known-report-4 c = search needs
+
 slice-aggregate-put-pair-3 : tie.Need-slice-aggregate-put-pair-3
 slice-aggregate-put-pair-3 c = search needs
 
@@ -71,11 +89,11 @@ cast-put-pair-3 c = search needs
 put-pair-requires-3 : tie.Need-put-pair-requires-3
 put-pair-requires-3 c κs = search needs
 
-slice-aggregate-put-4 : tie.Need-slice-aggregate-put-4
-slice-aggregate-put-4 c = search needs
+slice-aggregate-put-6 : tie.Need-slice-aggregate-put-6
+slice-aggregate-put-6 c = search needs
 
-put-requires-4 : tie.Need-put-requires-4
-put-requires-4 c κs = search needs
+put-requires-6 : tie.Need-put-requires-6
+put-requires-6 c κs = search needs
 
 returns : tie.Need-returns
 returns c =
@@ -106,10 +124,21 @@ returns-3 c =
 
 returns-4 : tie.Need-returns-4
 returns-4 c =
+    let length = c .before .before .before in
+    let word = length .before .before in
+    let told = word .before .before .before .before in
+    let buf = told .before .before .args .buf .now in
+    let n = number (told .report3 .given .0 .0) in
+    let w = filled-more [] (text "written") buf _ _ 0 _ (filled-none buf) (word .put4 .ensures .1) (word .put4 .ensures .0) in
+    let p = filled-more (text "written") n buf _ _ _ _ w (length .put-number3 .ensures .2) (length .put-number3 .ensures .0) in
+    rw (told .report3 .given .1) (filled-more (text "written" ++ n) (text "\n") buf _ _ _ _ p (c .put5 .ensures .1) (c .put5 .ensures .0))
+
+returns-5 : tie.Need-returns-5
+returns-5 c =
     let pair = c .before .before .before in
     let told = pair .before .before .before .before in
     let buf = told .before .before .args .buf .now in
-    rw (told .report3 .given .1) (filled-more _ (text "\n") buf _ _ _ _ (pair .put-pair3 .ensures .0) (c .put4 .ensures .1) (c .put4 .ensures .0))
+    rw (told .report4 .given .1) (filled-more _ (text "\n") buf _ _ _ _ (pair .put-pair3 .ensures .0) (c .put6 .ensures .1) (c .put6 .ensures .0))
 
 pub fill-spec : {M : Type 1} → statement M
 fill-spec =
@@ -133,12 +162,19 @@ fill-spec =
     slice-aggregate-put-3
     put-requires-3
     enum-known-report-3
+    slice-aggregate-put-4
+    put-requires-4
+    put-number-requires-3
+    slice-aggregate-put-5
+    put-requires-5
+    enum-known-report-4
     slice-aggregate-put-pair-3
     cast-put-pair-3
     put-pair-requires-3
-    slice-aggregate-put-4
-    put-requires-4
+    slice-aggregate-put-6
+    put-requires-6
     returns
     returns-2
     returns-3
-    returns-4)
+    returns-4
+    returns-5)

@@ -7,10 +7,10 @@ use Rattle.readings.proofs.samples.Statement.{statement}
 use Rattle.readings.proofs.samples.Tie as tie
 
 abbrev Inv-loop : tie.InvT-loop
-Inv-loop list at₀ at = Unit {0}
+Inv-loop list kind at₀ at = Unit {0}
 
 abbrev μ-loop : tie.MeasureT-loop
-μ-loop list at₀ at = length list - at
+μ-loop list kind at₀ at = length list - at
 
 loop-holds : tie.Need-loop-holds Inv-loop μ-loop
 loop-holds c = search needs
