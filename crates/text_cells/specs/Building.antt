@@ -1,6 +1,5 @@
 -- The cells of a typed pattern, made from its tokens by a machine with a stack, the last token first: as an executable definition.
 -- Assumes nothing.
-use mathlib.Core.Bool.{Bool}
 use mathlib.Core.List.{List, [], _∷_, _++_}
 use Prim.Native.Nat.{ℕ, suc, _+_, _-_, _*_, _/_, _%_}
 use lib.Dec.{eqb}

@@ -2,12 +2,12 @@
 -- Assumes nothing.
 use mathlib.Core.Path.{_≡_, refl, sym, ap, subst, _∙_}
 use mathlib.Core.Bool.{Bool, true, false}
-use mathlib.Core.List.{List, [], _∷_, _++_}
+use mathlib.Core.List.{List, [], _∷_}
 use Prim.Native.Nat.{ℕ, suc, _+_, _-_, _*_, _/_, _%_, _≤_, _<_}
 use native.Mathlib.Omega.{arith}
 use borrow.Author.Tests.{eq-eqb, ne-eqb, lt-ltb}
 use lib.Dec.{eqb}
-use lib.ListN.{length, getD, drop}
+use lib.ListN.{length, getD}
 use Rattle.wire.specs.Choice.{pick}
 use Rattle.pattern.specs.Checks.Finding.{passes}
 use Rattle.typed_text.specs.Text.{NodeText, RowText}
@@ -15,9 +15,7 @@ use Rattle.typed_text.specs.Tokens.{Token, nodeTokens, rowTokens, tokensOf, lim
 use Rattle.typed_text.specs.Spelled.{capped, tokenWord, tokenWords}
 use Rattle.typed_file.specs.Trees.{Tree, tree, Part, number, entry, unused, nodeTree, rowTree}
 use Rattle.typed_file.specs.Formed.{InRange, in-range}
-use Rattle.text_cells.specs.declared.letters.Made.{Made}
-use Rattle.text_cells.specs.declared.letters.Marks.{Marks}
-use Rattle.text_cells.specs.Building.{madeBy, marksBy, barMark, State, withCell, withMarks, cellOr, taken, takenWord, builtFrom, builtOf, start, node, path}
+use Rattle.text_cells.specs.Building.{madeBy, marksBy, barMark, State, withCell, withMarks, taken, takenWord, builtFrom, builtOf, start, node, path}
 use Rattle.text_cells.specs.Cells.{CellIs, FieldIs, run, Four, run-four, Grown, grown-none, grown-on, cell-grown, field-grown, nodeItem, rowItem, NodeBuilt, RowBuilt, node-cell, row-cell}
 
 -- ---- laws

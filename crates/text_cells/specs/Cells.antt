@@ -3,21 +3,17 @@
 use mathlib.Core.Path.{_≡_, refl, sym, ap, subst, _∙_}
 use mathlib.Core.Bool.{Bool, true, false}
 use mathlib.Core.List.{List, [], _∷_, _++_, append-assoc, append-nil}
-use Prim.Native.Nat.{ℕ, zero, suc, _+_, _-_, _*_, _/_, _%_, _≤_, _<_}
+use Prim.Native.Nat.{ℕ, suc, _+_, _-_, _*_, _≤_, _<_}
 use native.Mathlib.Nat.{add-zero}
 use native.Mathlib.Omega.{arith}
-use borrow.Author.Tests.{eq-eqb, ne-eqb}
 use lib.Dec.{eqb}
 use lib.ListN.{length, getD, drop, length-append, List·getD-append}
 use lib.Seq.{getD-append-add}
 use Rattle.wire.specs.Choice.{pick}
-use Rattle.typed_text.specs.Text.{NodeText, RowText}
-use Rattle.typed_text.specs.Tokens.{Token, nodeTokens, rowTokens, valueOf}
-use Rattle.typed_file.specs.Trees.{Tree, tree, Part, number, entry, unused, nodeTree, rowTree}
-use Rattle.typed_file.specs.Formed.{InRange}
+use Rattle.typed_text.specs.Tokens.{Token}
+use Rattle.typed_file.specs.Trees.{Tree, tree, Part, number, entry}
 use Rattle.text_cells.specs.declared.letters.Made.{Made}
-use Rattle.text_cells.specs.declared.letters.Marks.{Marks}
-use Rattle.text_cells.specs.Building.{madeBy, marksBy, State, withCell, withMarks, cellOr, taken, start}
+use Rattle.text_cells.specs.Building.{madeBy, marksBy, State, withCell, withMarks, taken, start}
 
 -- ---- laws
 

@@ -15,7 +15,7 @@ use Rattle.wire.specs.Blocks.{putFrom}
 use Rattle.wire.specs.Onto.{onto, onto-more}
 use Rattle.text_cells.specs.declared.letters.Made.{Made}
 use Rattle.text_cells.specs.declared.letters.Marks.{Marks}
-use Rattle.text_cells.specs.Building.{madeBy, marksBy, State, withCell, withMarks, taken, takenWord, builtFrom, start, builtOf}
+use Rattle.text_cells.specs.Building.{madeBy, marksBy, State, withCell, withMarks, takenWord, builtFrom, start, builtOf}
 
 -- ---- laws
 

@@ -2,24 +2,22 @@
 -- of it. What is completed in the end is the root.
 -- Assumes nothing.
 use mathlib.Core.Path.{_≡_, refl, sym, ap, subst, _∙_}
-use mathlib.Core.Bool.{Bool, true, false, false≢true}
-use mathlib.Core.List.{List, [], _∷_, _++_, append-nil, append-assoc}
+use mathlib.Core.Bool.{Bool, true, false}
+use mathlib.Core.List.{List, [], _∷_}
 use Prim.Native.Nat.{ℕ, zero, suc, _+_, _-_, _*_, _≤_, _<_}
 use native.Mathlib.Nat.{not-suc-le-zero, le-of-suc-le-suc}
 use native.Mathlib.Omega.{arith}
-use borrow.Author.Tests.{lt-ltb, le-ltb, eq-eqb, ne-eqb, eqb-true, eqb-false, ltb-true, ltb-false}
+use borrow.Author.Tests.{lt-ltb, le-ltb, eq-eqb, ne-eqb, eqb-true, eqb-false, ltb-false}
 use lib.Dec.{ltb, eqb}
-use lib.ListN.{length, getD, set, take, drop, replicate, length-set, length-append}
-use lib.Seq.{drop-cons, getD-set-same, getD-set-other}
+use lib.ListN.{length, getD, set, drop}
 use Rattle.wire.specs.Choice.{pick}
 use Rattle.wire.specs.Onto.{onto}
 use Rattle.typed_file.specs.Trees.{Tree, tree, Part, number, entry}
-use Rattle.typed_file.specs.Entries.{Entry, Found, at, nowhere, findFrom, placed, place, complete, entriesOf, entryBytes}
-use Rattle.typed_file.specs.Completion.{Stands, PartIs, Distinct, Grown, completes, complete-distinct, still, first-x, first-y, first-z, all-there}
-use Rattle.text_cells.specs.Cells.{CellIs, FieldIs, cell-once}
+use Rattle.typed_file.specs.Entries.{Entry, at, place, complete, entriesOf, entryBytes}
+use Rattle.typed_file.specs.Completion.{Stands, PartIs, Distinct}
+use Rattle.text_cells.specs.Cells.{CellIs, FieldIs}
 use Rattle.text_entries.specs.declared.Entries.{Entries}
 use Rattle.text_entries.specs.declared.Fields.{Fields}
-use Rattle.text_entries.specs.Placing.{entryOf, entriesFrom, numberFound, storedIf, entries-held, entry-stored, among}
 
 -- the number of a field: what it is, or what is kept of its part, less one; 256 where nothing is
 unfoldable pub numberOf : List ℕ → ℕ → ℕ

@@ -2,24 +2,20 @@
 -- Assumes nothing.
 use mathlib.Core.Path.{_≡_, refl, sym, ap, subst, _∙_}
 use mathlib.Core.Bool.{Bool, true, false}
-use mathlib.Core.List.{List, [], _∷_, _++_, append-nil, append-assoc}
-use Prim.Native.Nat.{ℕ, zero, suc, _+_, _-_, _*_, _≤_, _<_}
-use native.Mathlib.Nat.{add-zero}
+use mathlib.Core.List.{List}
+use Prim.Native.Nat.{ℕ, _+_, _-_, _*_, _≤_, _<_}
 use native.Mathlib.Omega.{arith}
-use borrow.Author.Tests.{lt-ltb, le-ltb, eq-eqb, ne-eqb, eqb-true, eqb-false, ltb-true, ltb-false}
-use lib.Dec.{ltb, eqb}
-use lib.ListN.{length, getD, set, take, drop, replicate, length-set, length-append, length-replicate, getD-replicate, drop-of-length-le, List·getD-eq-default}
-use lib.Seq.{drop-cons, drop-set-lt, getD-set-same, getD-set-other, take-append-seam}
+use borrow.Author.Tests.{eqb-true, eqb-false}
+use lib.Dec.{eqb}
+use lib.ListN.{getD}
 use Rattle.wire.specs.Choice.{pick}
-use Rattle.wire.specs.Onto.{onto}
-use Rattle.typed_file.specs.Trees.{Tree, tree, Part, number, entry}
-use Rattle.typed_file.specs.Entries.{Entry, Found, at, nowhere, findFrom, Completed, placed, place, complete, entriesOf, entryBytes}
-use Rattle.typed_file.specs.Completion.{Stands, PartIs, Distinct, Grown, completes, complete-distinct, still, first-x, first-y, first-z, all-there}
-use Rattle.text_cells.specs.Cells.{CellIs, FieldIs, cell-once}
-use Rattle.text_cells.specs.Held.{drop-put}
+use Rattle.typed_file.specs.Trees.{Tree, tree, Part, entry}
+use Rattle.typed_file.specs.Entries.{Entry, place, complete}
+use Rattle.typed_file.specs.Completion.{Stands, PartIs, Distinct, first-x, first-y, first-z, all-there}
+use Rattle.text_cells.specs.Cells.{CellIs, FieldIs}
 use Rattle.text_entries.specs.declared.Fields.{Fields}
-use Rattle.text_entries.specs.Placing.{entryOf, entriesFrom, numberFound, storedIf, entries-held, entry-stored}
-use Rattle.text_entries.specs.Completing.{numberOf, orOpen, fieldsOf, countAfter, completeAll, AllCells, Going, OpenPart, part-number, part-open}
+use Rattle.text_entries.specs.Placing.{entryOf}
+use Rattle.text_entries.specs.Completing.{numberOf, orOpen, fieldsOf, OpenPart, part-number, part-open}
 
 -- ---- laws
 

@@ -4,25 +4,25 @@
 use mathlib.Core.Path.{_≡_, refl, sym, ap, subst, _∙_}
 use mathlib.Core.Bool.{Bool, true, false}
 use mathlib.Core.List.{List, [], _∷_, _++_, append-nil, append-assoc}
-use Prim.Native.Nat.{ℕ, zero, suc, _+_, _-_, _*_, _≤_, _<_}
+use Prim.Native.Nat.{ℕ, suc, _+_, _-_, _*_, _≤_, _<_}
 use native.Mathlib.Nat.{min-eq-left}
 use native.Mathlib.Omega.{arith}
 use borrow.Author.Tests.{lt-ltb, le-ltb, eq-eqb, ne-eqb, eqb-true, eqb-false, ltb-true, ltb-false}
 use lib.Dec.{ltb, eqb}
 use lib.ListN.{length, getD, set, take, drop, replicate, length-set, length-take, length-append, length-replicate, getD-replicate, drop-of-length-le, List·getD-eq-default}
-use lib.Seq.{drop-cons, drop-set-lt, getD-set-same, getD-set-other, length-front, take-append-seam}
+use lib.Seq.{drop-cons, getD-set-same, getD-set-other, length-front, take-append-seam}
 use Rattle.wire.specs.Choice.{pick}
 use Rattle.wire.specs.Blocks.{putFrom}
 use Rattle.wire.specs.Onto.{onto}
 use Rattle.typed_file.specs.Trees.{Tree, tree, entry}
 use Rattle.typed_file.specs.Entries.{Entry, Found, findFrom, Completed, placed, place, complete, entriesOf, entryBytes}
-use Rattle.typed_file.specs.Completion.{Stands, PartIs, Distinct, Grown, grown-on, completes, complete-distinct, still, first-x, first-y, first-z, all-there}
-use Rattle.text_cells.specs.Cells.{CellIs, FieldIs, cell-once}
+use Rattle.typed_file.specs.Completion.{Stands, Grown, grown-on, completes, complete-distinct, still}
+use Rattle.text_cells.specs.Cells.{CellIs, cell-once}
 use Rattle.text_cells.specs.Held.{drop-put}
 use Rattle.text_entries.specs.declared.Fields.{Fields}
 use Rattle.text_entries.specs.Placing.{entryOf, entriesFrom, numberFound, storedIf, entries-held, bytes-four, entry-stored, Below, among}
 use Rattle.text_entries.specs.Opening.{OpenAt, fields-open, fields-numbered}
-use Rattle.text_entries.specs.Completing.{numberOf, orOpen, fieldsOf, countAfter, completeAll, AllCells, Going, zeros, zeros-set}
+use Rattle.text_entries.specs.Completing.{fieldsOf, countAfter, completeAll, AllCells, Going, zeros, zeros-set}
 
 -- ---- laws
 

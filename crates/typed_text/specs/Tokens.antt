@@ -1,9 +1,8 @@
 -- The tokens of a text, in its order, each with its place: by these its numbers are held to their ranges, 02's refusal 31.
 -- Assumes nothing.
-use mathlib.Core.Path.{_≡_}
-use mathlib.Core.List.{List, [], _∷_, _++_}
+use mathlib.Core.List.{List, [], _∷_}
 use Prim.Native.Nat.{ℕ, _+_, _-_, _*_}
-use lib.ListN.{length, getD}
+use lib.ListN.{length}
 use lib.Dec.{ltb, eqb}
 use Rattle.wire.specs.Choice.{pick}
 use Rattle.pattern.specs.Checks.Finding.{Check, passes, refusesIf, _then_}

@@ -2,7 +2,7 @@
 -- Assumes nothing.
 use mathlib.Core.Path.{_≡_, refl, sym, ap, subst, _∙_}
 use mathlib.Core.Bool.{Bool, true, false, _||_}
-use mathlib.Core.Logic.{_⊎_, inl, inr, _↔_}
+use mathlib.Core.Logic.{inl, inr, _↔_}
 use mathlib.Core.List.{List, [], _∷_}
 use Prim.Native.Nat.{ℕ, zero, suc, _+_, _-_, _≤_, _<_}
 use native.Mathlib.Omega.{arith}
@@ -11,13 +11,12 @@ use lib.Dec.{ltb}
 use lib.ListN.{length, take, length-append}
 use Rattle.wire.specs.Onto.{onto, take-onto}
 use Rattle.pattern.specs.Logic.Semantics.{Model, Naming, Holds}
-use Rattle.pattern.specs.Checks.Tests.{or-is-false}
 use Rattle.pattern.specs.Checks.Finding.{Finding, found, refused, Check, passes, refuses, refusesIf, _then_, unless, onward, written, destinationAfter}
 use Rattle.pattern.specs.File.Entries.{maxEntries}
 use Rattle.pattern.specs.File.Reading.{readingOf}
 use Rattle.pattern.specs.File.Valid.{valid-read}
 use Rattle.pattern.specs.Meaning.Expression.{rootOf}
-use Rattle.typed_text.specs.Text.{NodeText, node, IsText}
+use Rattle.typed_text.specs.Text.{NodeText, node}
 use Rattle.typed_text.specs.Fault.{FaultAt, at-byte, at-end, Parsed, whole, faulty}
 use Rattle.typed_text.specs.Tokens.{Token, tokensOf, limitOf, rangeCheck}
 use Rattle.typed_text.specs.Means.{nodeMeans}
@@ -27,8 +26,8 @@ use Rattle.typed_file.specs.Trees.{Tree, nodeTree}
 use Rattle.typed_file.specs.Entries.{entriesOf, fileOf}
 use Rattle.typed_file.specs.ValidFile.{file-length, file-valid}
 use Rattle.typed_file.specs.Meaning.{file-means, file-means-finite}
-use Rattle.text_cells.specs.Building.{State, builtOf}
-use Rattle.text_cells.specs.Cells.{CellIs, cell-once}
+use Rattle.text_cells.specs.Building.{builtOf}
+use Rattle.text_cells.specs.Cells.{cell-once}
 use Rattle.text_cells.specs.Built.{TextCells, text-built}
 use Rattle.typing.specs.Typing.{maxText, entriesIn, fileWithin, textWithin, parsedWithin, typingOf, SameMeaning, Types, Outside, TypePromise}
 

@@ -1,27 +1,26 @@
 -- The file as it is written, from the bytes of its entries, and what each step of it says of the text.
 -- Assumes nothing.
 use mathlib.Core.Path.{_≡_, refl, sym, ap, subst, _∙_}
-use mathlib.Core.Bool.{Bool, true, false, _||_}
+use mathlib.Core.Bool.{Bool, true, false}
 use mathlib.Core.List.{List, [], _∷_, _++_}
 use Prim.Native.Nat.{ℕ, _+_, _-_, _*_, _≤_, _<_}
-use native.Mathlib.Nat.{min-eq-left}
 use native.Mathlib.Omega.{arith}
 use borrow.Author.Tests.{lt-ltb, le-ltb, ltb-true, ltb-false}
 use lib.Dec.{ltb}
-use lib.ListN.{length, take, drop, replicate, length-append, length-take, length-map}
+use lib.ListN.{length, take, drop, length-take, length-map}
 use lib.Seq.{take-all, length-front}
 use Rattle.wire.specs.Choice.{pick}
 use Rattle.wire.specs.Blocks.{putFrom}
 use Rattle.wire.specs.Cleared.{front-length}
 use Rattle.wire.specs.Onto.{onto, onto-front, onto-more, take-onto}
-use Rattle.pattern.specs.Checks.Finding.{Finding, found, refused, Check, passes, refuses, refusesIf, unless, onward, written, destinationAfter, found-passes, refused-refuses}
+use Rattle.pattern.specs.Checks.Finding.{Finding, found, refused, passes, refusesIf, unless, found-passes, refused-refuses}
 use Rattle.pattern.specs.File.Entries.{maxEntries}
 use Rattle.typed_text.specs.Text.{NodeText, node}
-use Rattle.typed_text.specs.Tokens.{Token, tokensOf, rangeCheck}
+use Rattle.typed_text.specs.Tokens.{tokensOf, rangeCheck}
 use Rattle.typed_text.specs.Spelled.{byteTokens, tokenWord, tokenWords, tokens-spelled, byte-tokens-fewer}
 use Rattle.typed_file.specs.Trees.{nodeTree}
-use Rattle.typed_file.specs.Entries.{Entry, entriesOf, entryBytes, fileOf}
-use Rattle.text_cells.specs.Building.{State, builtOf}
+use Rattle.typed_file.specs.Entries.{Entry, entryBytes}
+use Rattle.text_cells.specs.Building.{builtOf}
 use Rattle.text_cells.specs.Cells.{CellIs, cell-more}
 use Rattle.text_cells.specs.Built.{TextCells, text-built, built-few}
 use Rattle.text_entries.specs.declared.Entries.{Entries}

@@ -5,9 +5,6 @@ use native.Mathlib.Omega.{arith}
 use Rattle.text_cells.specs.Held.{Going, going-start, going-on, going-end}
 use Rattle.text_cells.proofs.build.Statement.{statement}
 use Rattle.text_cells.proofs.build.Tie as tie
-use Rattle.text_cells.proofs.build.Reads as reads
-use Rattle.text_cells.proofs.build.Lts as lts
-use Rattle.text_cells.proofs.take.Reads as take-reads
 
 abbrev Inv-loop : tie.InvT-loop
 Inv-loop tokens n cells₀ items₀ at₀ count₀ i₀ cells items at count i = Going tokens n cells₀ cells items at count i
@@ -15,34 +12,27 @@ Inv-loop tokens n cells₀ items₀ at₀ count₀ i₀ cells items at count i =
 abbrev μ-loop : tie.MeasureT-loop
 μ-loop tokens n cells₀ items₀ at₀ count₀ i₀ cells items at count i = i
 
--- src/lib.rt:77:5
 loop-holds : tie.Need-loop-holds Inv-loop μ-loop
 loop-holds c = going-start (c .args .tokens .now) (c .args .cells .now) (c .args .n) (c .pre .2) (c .pre .1) (c .pre .0)
 
--- src/lib.rt:78:9
 sub-i : tie.Need-sub-i Inv-loop μ-loop
 sub-i c = search needs
 
--- src/lib.rt:79:26
 mul-take : tie.Need-mul-take Inv-loop μ-loop
 mul-take c = omega (arith, c .before .loop .inv .left, c .before .before .pre)
 
--- src/lib.rt:79:26
 element-copy-out-take : tie.Need-element-copy-out-take Inv-loop μ-loop
 element-copy-out-take c = omega (arith, c .before .loop .inv .left, c .before .before .pre, c .loop-test .taken)
 
--- src/lib.rt:79:13
 take-requires : tie.Need-take-requires Inv-loop μ-loop
 take-requires c κs =
     let l = c .before .before .before .before .loop in
     let some = c .before .before .before .loop-test .taken in
     (l .inv .long, omega (arith, l .inv .low, some), omega (arith, l .inv .high, some), omega (arith, l .inv .few, some))
 
--- src/lib.rt:77:5
 loop-less : tie.Need-loop-less Inv-loop μ-loop
 loop-less c = search needs
 
--- src/lib.rt:77:5
 loop-again : tie.Need-loop-again Inv-loop μ-loop
 loop-again c =
     let l = c .before .before .before .before .before .loop in
@@ -50,7 +40,6 @@ loop-again c =
     going-on (s .args .tokens .now) (s .args .cells .now) (s .args .n) (s .pre .2) (s .pre .1) (s .pre .0) (l .cells) (l .items) _ _ (l .at) (l .count) _ _ (l .i)
     (c .before .before .before .before .loop-test .taken) (l .inv) (c .take .ensures)
 
--- src/lib.rt:68:1
 returns : tie.Need-returns Inv-loop μ-loop
 returns c =
     let l = c .before .loop in

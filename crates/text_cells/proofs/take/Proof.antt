@@ -1,164 +1,123 @@
 -- `text_cells::take` meets its contract: `marks-took` and `cell-took`.
 -- Assumes nothing.
 use borrow.Author.Needs.{needs}
-use mathlib.Core.Path.{_≡_, ap, _∙_}
-use Prim.Native.Nat.{ℕ, _≤_}
 use native.Mathlib.Omega.{arith}
 use Rattle.text_cells.specs.Held.{taken-few-of, put-few-of, marks-took, cell-took}
 use Rattle.text_cells.proofs.take.Statement.{statement}
 use Rattle.text_cells.proofs.take.Tie as tie
-use Rattle.text_cells.proofs.take.Reads as reads
-use Rattle.text_cells.proofs.take.Lts as lts
-use Rattle.text_cells.proofs.letters.made_by.Reads as made-by-reads
-use Rattle.text_cells.proofs.letters.marks_by.Reads as marks-by-reads
-use Rattle.text_cells.proofs.store.Reads as store-reads
 
--- src/lib.rt:52:18
 cast-letter : tie.Need-cast-letter
 cast-letter c = search needs
 
--- src/lib.rt:54:39
 mul-made-by : tie.Need-mul-made-by
 mul-made-by c = search needs
 
--- src/lib.rt:54:39
 element-copy-out-made-by : tie.Need-element-copy-out-made-by
 element-copy-out-made-by c = search needs
 
--- src/lib.rt:54:56
 add-made-by : tie.Need-add-made-by
 add-made-by c = search needs
 
--- src/lib.rt:54:50
 mul-made-by-2 : tie.Need-mul-made-by-2
 mul-made-by-2 c = search needs
 
--- src/lib.rt:54:50
 element-copy-out-made-by-2 : tie.Need-element-copy-out-made-by-2
 element-copy-out-made-by-2 c = search needs
 
--- src/lib.rt:54:71
 add-made-by-2 : tie.Need-add-made-by-2
 add-made-by-2 c = search needs
 
--- src/lib.rt:54:65
 mul-made-by-3 : tie.Need-mul-made-by-3
 mul-made-by-3 c = search needs
 
--- src/lib.rt:54:65
 element-copy-out-made-by-3 : tie.Need-element-copy-out-made-by-3
 element-copy-out-made-by-3 c = search needs
 
--- src/lib.rt:54:9
 made-by-requires : tie.Need-made-by-requires
 made-by-requires c κs = search needs
 
--- src/lib.rt:56:45
 mul-marks-by : tie.Need-mul-marks-by
 mul-marks-by c = search needs
 
--- src/lib.rt:56:45
 element-copy-out-marks-by : tie.Need-element-copy-out-marks-by
 element-copy-out-marks-by c = search needs
 
--- src/lib.rt:56:62
 add-marks-by : tie.Need-add-marks-by
 add-marks-by c = search needs
 
--- src/lib.rt:56:56
 mul-marks-by-2 : tie.Need-mul-marks-by-2
 mul-marks-by-2 c = search needs
 
--- src/lib.rt:56:56
 element-copy-out-marks-by-2 : tie.Need-element-copy-out-marks-by-2
 element-copy-out-marks-by-2 c = search needs
 
--- src/lib.rt:56:13
 marks-by-requires : tie.Need-marks-by-requires
 marks-by-requires c κs = search needs
 
--- src/lib.rt:57:15
 sub-items : tie.Need-sub-items
 sub-items c = search needs
 
--- src/lib.rt:57:9
 mul-items : tie.Need-mul-items
 mul-items c = search needs
 
--- src/lib.rt:57:9
 element-write-items : tie.Need-element-write-items
 element-write-items c = search needs
 
--- src/lib.rt:58:15
 sub-items-2 : tie.Need-sub-items-2
 sub-items-2 c = search needs
 
--- src/lib.rt:58:9
 mul-items-2 : tie.Need-mul-items-2
 mul-items-2 c = search needs
 
--- src/lib.rt:58:9
 element-write-items-2 : tie.Need-element-write-items-2
 element-write-items-2 c = search needs
 
--- src/lib.rt:59:28
 sub-t26 : tie.Need-sub-t26
 sub-t26 c =
     let few = put-few-of (c .before .marks-by .result) _ _ _ _ (c .before .marks-by .ensures) in
     omega (arith, few, c .before .before .before .before .before .before .before .before .before .before .pre)
 
--- src/lib.rt:59:9
 returns : tie.Need-returns
 returns c =
     let l = c .before .before .before .before .before .before .before .before .before .before in
     marks-took (l .args .word) (l .args .count) (l .args .cells .now) (l .args .items .now) (l .args .at) (l .pre .1) (omega (arith, l .pre))
     (c .before .before .before .before .before .before .made-by .result) (c .before .marks-by .result) (c .before .before .before .before .before .before .made-by .ensures) (c .before .marks-by .ensures) (c .before .before .before .before .if1 .taken)
 
--- src/lib.rt:61:5
 store-requires : tie.Need-store-requires
 store-requires c κs = search needs
 
--- src/lib.rt:62:17
 add-above : tie.Need-add-above
 add-above c =
     let few = taken-few-of (c .before .before .before .before .before .made-by .result) _ _ _ _ _ (c .before .before .before .before .before .made-by .ensures) in
     omega (arith, few .takes-few, c .before .before .before .before .before .before .before .before .before .pre)
 
--- src/lib.rt:62:17
 sub-above : tie.Need-sub-above
 sub-above c = search needs
 
--- src/lib.rt:63:25
 add-items : tie.Need-add-items
 add-items c = search needs
 
--- src/lib.rt:63:20
 mul-items-3 : tie.Need-mul-items-3
 mul-items-3 c = search needs
 
--- src/lib.rt:63:20
 add-items-2 : tie.Need-add-items-2
 add-items-2 c =
     let few = taken-few-of (c .before .before .before .before .before .before .made-by .result) _ _ _ _ _ (c .before .before .before .before .before .before .made-by .ensures) in
     omega (arith, few .takes-few, few .tag-few, c .before .before .before .before .before .before .before .before .before .before .pre)
 
--- src/lib.rt:63:5
 mul-items-4 : tie.Need-mul-items-4
 mul-items-4 c =
     let few = taken-few-of (c .before .before .before .before .before .before .made-by .result) _ _ _ _ _ (c .before .before .before .before .before .before .made-by .ensures) in
     omega (arith, few .takes-few, few .tag-few, c .before .before .before .before .before .before .before .before .before .before .pre)
 
--- src/lib.rt:63:5
 element-write-items-3 : tie.Need-element-write-items-3
 element-write-items-3 c =
     let few = taken-few-of (c .before .before .before .before .before .before .made-by .result) _ _ _ _ _ (c .before .before .before .before .before .before .made-by .ensures) in
     omega (arith, few .takes-few, few .tag-few, c .before .before .before .before .before .before .before .before .before .before .pre)
 
--- src/lib.rt:64:31
 add-t11 : tie.Need-add-t11
 add-t11 c = search needs
 
--- src/lib.rt:48:1
 returns-2 : tie.Need-returns-2
 returns-2 c =
     let l = c .before .before .before .before .before .before .before .before .before .before in

@@ -2,7 +2,7 @@
 -- Assumes nothing.
 use borrow.Author.Needs.{needs}
 use mathlib.Core.Path.{_≡_, sym, ap, subst, _∙_}
-use Prim.Native.Nat.{ℕ, _+_, _-_, _*_, _≤_, _<_}
+use Prim.Native.Nat.{_+_, _-_, _*_, _≤_}
 use native.Mathlib.Omega.{arith}
 use mathlib.Core.List.{List}
 use borrow.Author.Tests.{lt-ltb, le-ltb}
@@ -17,12 +17,6 @@ use Rattle.text_entries.specs.Completing.{countedAs, Going, zeros}
 use Rattle.text_entries.specs.Stack.{head, cell-below, cell-is, going-start, going-end, going-open, entries-long, kind-small, full-step, few-step, placed-step}
 use Rattle.text_entries.proofs.complete.Statement.{statement}
 use Rattle.text_entries.proofs.complete.Tie as tie
-use Rattle.text_entries.proofs.complete.Reads as reads
-use Rattle.text_entries.proofs.complete.Lts as lts
-use Rattle.text_entries.proofs.count_after.Reads as count-after-reads
-use Rattle.text_entries.proofs.fields_of.Reads as fields-of-reads
-use Rattle.text_entries.proofs.kind_of.Reads as kind-of-reads
-use Rattle.text_entries.proofs.placed.place.Reads as place-reads
 
 abbrev Inv-loop : tie.InvT-loop
 Inv-loop cells count entries₀ numbers₀ stack₀ at₀ n₀ entries numbers stack at n =
@@ -31,38 +25,30 @@ Inv-loop cells count entries₀ numbers₀ stack₀ at₀ n₀ entries numbers s
 abbrev μ-loop : tie.MeasureT-loop
 μ-loop cells count entries₀ numbers₀ stack₀ at₀ n₀ entries numbers stack at n = zeros numbers * 1025 + at
 
--- src/lib.rt:112:18
 sub-at : tie.Need-sub-at Inv-loop μ-loop
 sub-at c = search needs
 
--- src/lib.rt:113:17
 sub-stack : tie.Need-sub-stack Inv-loop μ-loop
 sub-stack c = search needs
 
--- src/lib.rt:113:5
 mul-stack : tie.Need-mul-stack Inv-loop μ-loop
 mul-stack c = search needs
 
--- src/lib.rt:113:5
 array-write-stack : tie.Need-array-write-stack Inv-loop μ-loop
 array-write-stack c = search needs
 
--- src/lib.rt:115:5
 loop-holds : tie.Need-loop-holds Inv-loop μ-loop
 loop-holds c =
     let t = c .pre .1 .1 .0 in
     let root = c .pre .1 .1 .1 in
     (t, (root, going-start (c .args .cells .now) (c .args .entries .now) t (c .pre .0) (c .args .count) (c .pre .1 .0 .0) (c .pre .1 .0 .1) root))
 
--- src/lib.rt:116:20
 mul-cell : tie.Need-mul-cell Inv-loop μ-loop
 mul-cell c = search needs
 
--- src/lib.rt:116:20
 array-read-cell : tie.Need-array-read-cell Inv-loop μ-loop
 array-read-cell c = omega (arith, c .loop-test .taken, c .before .loop .inv .1 .1 .stack-long)
 
--- src/lib.rt:117:15
 fields-of-requires : tie.Need-fields-of-requires Inv-loop μ-loop
 fields-of-requires c κs =
     let l = c .before .before .loop in
@@ -71,11 +57,9 @@ fields-of-requires c κs =
     let below = c .before .loop-test .taken in
     (cell-below (s .args .cells .now) (s .args .entries .now) (l .inv .0) (s .pre .0) (l .numbers) (l .stack) (l .entries) (l .at) (l .n) g below, (head (s .args .cells .now) (s .args .entries .now) (l .inv .0) (s .pre .0) (l .numbers) (l .stack) (l .entries) (l .at) (l .n) g below .top, cell-is (s .args .cells .now) (s .args .entries .now) (l .inv .0) (s .pre .0) (l .numbers) (l .stack) (l .entries) (l .at) (l .n) g below))
 
--- src/lib.rt:118:26
 enum-known-part : tie.Need-enum-known-part Inv-loop μ-loop
 enum-known-part c = search needs
 
--- src/lib.rt:119:17
 sub-at-2 : tie.Need-sub-at-2 Inv-loop μ-loop
 sub-at-2 c =
     let l = c .before .before .before .before .before .before .loop in
@@ -83,15 +67,12 @@ sub-at-2 c =
     let g = l .inv .1 .1 in
     going-open (s .args .cells .now) (s .args .entries .now) (l .inv .0) (s .pre .0) (l .numbers) (l .stack) (l .entries) (l .at) (l .n) g (c .before .before .before .before .before .loop-test .taken) (c .before .part .given .0 .0) (sym (c .before .before .before .fields-of .ensures) ∙ c .before .part .given .1) .0
 
--- src/lib.rt:120:17
 mul-stack-2 : tie.Need-mul-stack-2 Inv-loop μ-loop
 mul-stack-2 c = omega (arith, c .before .before .before .before .before .loop-test .taken)
 
--- src/lib.rt:120:17
 array-write-stack-2 : tie.Need-array-write-stack-2 Inv-loop μ-loop
 array-write-stack-2 c = omega (arith, c .before .before .before .before .before .loop-test .taken, c .before .before .before .before .before .before .loop .inv .1 .1 .stack-long)
 
--- src/lib.rt:115:5
 loop-less : tie.Need-loop-less Inv-loop μ-loop
 loop-less c =
     let l = c .before .before .before .before .before .before .loop in
@@ -100,7 +81,6 @@ loop-less c =
     let some = going-open (s .args .cells .now) (s .args .entries .now) (l .inv .0) (s .pre .0) (l .numbers) (l .stack) (l .entries) (l .at) (l .n) g (c .before .before .before .before .before .loop-test .taken) (c .before .part .given .0 .0) (sym (c .before .before .before .fields-of .ensures) ∙ c .before .part .given .1) .0 in
     omega (arith, some)
 
--- src/lib.rt:115:5
 loop-again : tie.Need-loop-again Inv-loop μ-loop
 loop-again c =
     let l = c .before .before .before .before .before .before .loop in
@@ -108,11 +88,9 @@ loop-again c =
     let g = l .inv .1 .1 in
     (l .inv .0, (l .inv .1 .0, going-open (s .args .cells .now) (s .args .entries .now) (l .inv .0) (s .pre .0) (l .numbers) (l .stack) (l .entries) (l .at) (l .n) g (c .before .before .before .before .before .loop-test .taken) (c .before .part .given .0 .0) (sym (c .before .before .before .fields-of .ensures) ∙ c .before .part .given .1) .1))
 
--- src/lib.rt:122:30
 enum-known-x : tie.Need-enum-known-x Inv-loop μ-loop
 enum-known-x c = search needs
 
--- src/lib.rt:123:48
 kind-of-requires : tie.Need-kind-of-requires Inv-loop μ-loop
 kind-of-requires c κs =
     let l = c .before .before .before .before .before .before .before .loop in
@@ -121,7 +99,6 @@ kind-of-requires c κs =
     let below = c .before .before .before .before .before .before .loop-test .taken in
     (cell-below (s .args .cells .now) (s .args .entries .now) (l .inv .0) (s .pre .0) (l .numbers) (l .stack) (l .entries) (l .at) (l .n) g below, kind-small (s .args .cells .now) (head (s .args .cells .now) (s .args .entries .now) (l .inv .0) (s .pre .0) (l .numbers) (l .stack) (l .entries) (l .at) (l .n) g below .top) _ (cell-is (s .args .cells .now) (s .args .entries .now) (l .inv .0) (s .pre .0) (l .numbers) (l .stack) (l .entries) (l .at) (l .n) g below))
 
--- src/lib.rt:123:21
 place-requires : tie.Need-place-requires Inv-loop μ-loop
 place-requires c κs =
     let l = c .before .before .before .before .before .before .before .before .loop in
@@ -129,7 +106,6 @@ place-requires c κs =
     let g = l .inv .1 .1 in
     (entries-long (s .args .cells .now) (s .args .entries .now) (l .inv .0) (s .pre .0) (l .numbers) (l .stack) (l .entries) (l .at) (l .n) g, g .few)
 
--- src/lib.rt:125:21
 returns : tie.Need-returns Inv-loop μ-loop
 returns c =
     let l = c .before .before .before .before .before .before .before .before .before .before .loop in
@@ -143,11 +119,9 @@ returns c =
           (cell-once (l .inv .0) t (s .args .cells .now) _ (l .inv .1 .0) is) (full .1),
     )
 
--- src/lib.rt:127:17
 count-after-requires : tie.Need-count-after-requires Inv-loop μ-loop
 count-after-requires c κs = c .before .before .before .before .before .before .before .before .before .before .loop .inv .1 .1 .few
 
--- src/lib.rt:128:43
 add-numbers : tie.Need-add-numbers Inv-loop μ-loop
 add-numbers c =
     let l = c .before .before .before .before .before .before .before .before .before .before .before .loop in
@@ -157,7 +131,6 @@ add-numbers c =
     (c .before .before .before .kind-of .result) (c .before .before .place .result) (c .before .before .place .last .0) (c .before .before .before .kind-of .ensures) (c .before .before .place .ensures .0) (c .before .before .place .ensures .1) (c .before .if1 .left) in
     omega (arith, few)
 
--- src/lib.rt:128:42
 cast-numbers : tie.Need-cast-numbers Inv-loop μ-loop
 cast-numbers c =
     let l = c .before .before .before .before .before .before .before .before .before .before .before .loop in
@@ -167,7 +140,6 @@ cast-numbers c =
     (c .before .before .before .kind-of .result) (c .before .before .place .result) (c .before .before .place .last .0) (c .before .before .before .kind-of .ensures) (c .before .before .place .ensures .0) (c .before .before .place .ensures .1) (c .before .if1 .left) in
     omega (arith, few)
 
--- src/lib.rt:128:25
 cast-numbers-2 : tie.Need-cast-numbers-2 Inv-loop μ-loop
 cast-numbers-2 c =
     let l = c .before .before .before .before .before .before .before .before .before .before .before .loop in
@@ -176,7 +148,6 @@ cast-numbers-2 c =
     let below = cell-below (s .args .cells .now) (s .args .entries .now) (l .inv .0) (s .pre .0) (l .numbers) (l .stack) (l .entries) (l .at) (l .n) g (c .before .before .before .before .before .before .before .before .before .before .loop-test .taken) in
     omega (arith, below)
 
--- src/lib.rt:128:17
 array-write-numbers : tie.Need-array-write-numbers Inv-loop μ-loop
 array-write-numbers c =
     let l = c .before .before .before .before .before .before .before .before .before .before .before .loop in
@@ -185,11 +156,9 @@ array-write-numbers c =
     let below = cell-below (s .args .cells .now) (s .args .entries .now) (l .inv .0) (s .pre .0) (l .numbers) (l .stack) (l .entries) (l .at) (l .n) g (c .before .before .before .before .before .before .before .before .before .before .loop-test .taken) in
     omega (arith, below, g .numbers-long)
 
--- src/lib.rt:129:17
 add-at : tie.Need-add-at Inv-loop μ-loop
 add-at c = omega (arith, c .before .before .before .before .before .before .before .before .before .before .loop-test .taken)
 
--- src/lib.rt:115:5
 loop-less-2 : tie.Need-loop-less-2 Inv-loop μ-loop
 loop-less-2 c =
     let l = c .before .before .before .before .before .before .before .before .before .before .before .loop in
@@ -199,7 +168,6 @@ loop-less-2 c =
     (c .before .before .before .kind-of .result) (c .before .before .place .result) (c .before .before .place .last .0) (c .before .before .before .kind-of .ensures) (c .before .before .place .ensures .0) (c .before .before .place .ensures .1) _ (c .count-after .ensures) (c .before .if1 .left) in
     omega (arith, done .1, c .before .before .before .before .before .before .before .before .before .before .loop-test .taken)
 
--- src/lib.rt:115:5
 loop-again-2 : tie.Need-loop-again-2 Inv-loop μ-loop
 loop-again-2 c =
     let l = c .before .before .before .before .before .before .before .before .before .before .before .loop in
@@ -213,11 +181,9 @@ loop-again-2 c =
       ),
     )
 
--- src/lib.rt:133:23
 cast-t35 : tie.Need-cast-t35 Inv-loop μ-loop
 cast-t35 c = omega (arith, c .before .loop .inv .1 .1 .few)
 
--- src/lib.rt:103:1
 returns-2 : tie.Need-returns-2 Inv-loop μ-loop
 returns-2 c =
     let l = c .before .loop in

@@ -6,120 +6,94 @@ use Rattle.text_entries.specs.Completing.{open-large, open-x, open-y, op
 use borrow.Author.Needs.{needs}
 use Rattle.text_entries.proofs.fields_of.Statement.{statement}
 use Rattle.text_entries.proofs.fields_of.Tie as tie
-use Rattle.text_entries.proofs.fields_of.Reads as reads
-use Rattle.text_entries.proofs.fields_of.Lts as lts
-use Rattle.text_entries.proofs.number_of.Reads as number-of-reads
 
--- src/lib.rt:54:14
 mul-at : tie.Need-mul-at
 mul-at c = search needs
 
--- src/lib.rt:55:19
 add-f : tie.Need-add-f
 add-f c = search needs
 
--- src/lib.rt:55:13
 mul-f : tie.Need-mul-f
 mul-f c = search needs
 
--- src/lib.rt:55:13
 element-copy-out-f : tie.Need-element-copy-out-f
 element-copy-out-f c = search needs
 
--- src/lib.rt:56:9
 number-of-requires : tie.Need-number-of-requires
 number-of-requires c κs =
     let s = c .before in
     let reach = fields-small (s .args .cells .now) (s .pre .1 .0) (s .args .cell) (s .pre .1 .1) in
     omega (arith, reach .0, s .pre .0)
 
--- src/lib.rt:58:29
 sub-t17 : tie.Need-sub-t17
 sub-t17 c =
     let s = c .before .before .before in
     open-large (s .args .numbers .now) _ (sym (c .before .number-of .ensures .0) ∙ c .if1 .taken)
 
--- src/lib.rt:58:9
 returns : tie.Need-returns
 returns c =
     let s = c .before .before .before in
     open-x (s .args .cells .now) (s .args .numbers .now) (s .args .cell) (sym (c .before .number-of .ensures .0) ∙ c .if1 .taken)
 
--- src/lib.rt:60:19
 add-g : tie.Need-add-g
 add-g c = search needs
 
--- src/lib.rt:60:13
 mul-g : tie.Need-mul-g
 mul-g c = search needs
 
--- src/lib.rt:60:13
 element-copy-out-g : tie.Need-element-copy-out-g
 element-copy-out-g c = search needs
 
--- src/lib.rt:61:9
 number-of-requires-2 : tie.Need-number-of-requires-2
 number-of-requires-2 c κs =
     let s = c .before .before .before .before in
     let reach = fields-small (s .args .cells .now) (s .pre .1 .0) (s .args .cell) (s .pre .1 .1) in
     omega (arith, reach .1, s .pre .0)
 
--- src/lib.rt:63:29
 sub-t20 : tie.Need-sub-t20
 sub-t20 c =
     let s = c .before .before .before .before .before .before in
     open-large (s .args .numbers .now) _ (sym (c .before .number-of2 .ensures .0) ∙ c .if2 .taken)
 
--- src/lib.rt:63:9
 returns-2 : tie.Need-returns-2
 returns-2 c =
     let s = c .before .before .before .before .before .before in
     open-y (s .args .cells .now) (s .args .numbers .now) (s .args .cell) (λ e. c .before .before .before .if1 .left (c .before .before .before .before .number-of .ensures .0 ∙ e)) (sym (c .before .number-of2 .ensures .0) ∙ c .if2 .taken)
 
--- src/lib.rt:65:19
 add-h : tie.Need-add-h
 add-h c = search needs
 
--- src/lib.rt:65:13
 mul-h : tie.Need-mul-h
 mul-h c = search needs
 
--- src/lib.rt:65:13
 element-copy-out-h : tie.Need-element-copy-out-h
 element-copy-out-h c = search needs
 
--- src/lib.rt:66:9
 number-of-requires-3 : tie.Need-number-of-requires-3
 number-of-requires-3 c κs =
     let s = c .before .before .before .before .before .before .before in
     let reach = fields-small (s .args .cells .now) (s .pre .1 .0) (s .args .cell) (s .pre .1 .1) in
     omega (arith, reach .2, s .pre .0)
 
--- src/lib.rt:68:29
 sub-t23 : tie.Need-sub-t23
 sub-t23 c =
     let s = c .before .before .before .before .before .before .before .before .before in
     open-large (s .args .numbers .now) _ (sym (c .before .number-of3 .ensures .0) ∙ c .if3 .taken)
 
--- src/lib.rt:68:9
 returns-3 : tie.Need-returns-3
 returns-3 c =
     let s = c .before .before .before .before .before .before .before .before .before in
     open-z (s .args .cells .now) (s .args .numbers .now) (s .args .cell) (λ e. c .before .before .before .before .before .before .if1 .left (c .before .before .before .before .before .before .before .number-of .ensures .0 ∙ e)) (λ e. c .before .before .before .if2 .left (c .before .before .before .before .number-of2 .ensures .0 ∙ e)) (sym (c .before .number-of3 .ensures .0) ∙ c .if3 .taken)
 
--- src/lib.rt:70:22
 cast-t24 : tie.Need-cast-t24
 cast-t24 c = search needs
 
--- src/lib.rt:70:31
 cast-t25 : tie.Need-cast-t25
 cast-t25 c = search needs
 
--- src/lib.rt:70:40
 cast-t26 : tie.Need-cast-t26
 cast-t26 c = search needs
 
--- src/lib.rt:49:1
 returns-4 : tie.Need-returns-4
 returns-4 c =
     let s = c .before .before .before .before .before .before .before .before .before in

@@ -8,37 +8,27 @@ use Rattle.text_entries.specs.Completing.{numberOf}
 use borrow.Author.Needs.{needs}
 use Rattle.text_entries.proofs.number_of.Statement.{statement}
 use Rattle.text_entries.proofs.number_of.Tie as tie
-use Rattle.text_entries.proofs.number_of.Reads as reads
-use Rattle.text_entries.proofs.number_of.Lts as lts
-use Rattle.text_entries.proofs.wide.Reads as wide-reads
 
--- src/lib.rt:40:9
 returns : tie.Need-returns
 unfolding numberOf
 returns c = (rw (lt-ltb _ 256 (c .if1 .taken)), omega (arith, c .if1 .taken))
 
--- src/lib.rt:42:29
 cast-wide : tie.Need-cast-wide
 cast-wide c = search needs
 
--- src/lib.rt:42:21
 element-copy-out-wide : tie.Need-element-copy-out-wide
 element-copy-out-wide c = search needs
 
--- src/lib.rt:42:9
 wide-requires : tie.Need-wide-requires
 wide-requires c κs = search needs
 
--- src/lib.rt:44:9
 returns-2 : tie.Need-returns-2
 unfolding numberOf
 returns-2 c = (rw (le-ltb _ 256 (c .before .before .before .if1 .left), eq-eqb _ 0 (sym (c .before .wide .ensures .0) ∙ c .if2 .taken)), omega arith)
 
--- src/lib.rt:46:5
 sub-result : tie.Need-sub-result
 sub-result c = search needs
 
--- src/lib.rt:35:1
 returns-3 : tie.Need-returns-3
 unfolding numberOf
 returns-3 c =

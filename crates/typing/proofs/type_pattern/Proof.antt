@@ -1,6 +1,6 @@
 -- `typing::type_pattern` meets its contract: by what the bytes are found to be, and the promise follows from finding and destination.
 -- Assumes nothing.
-use mathlib.Core.Path.{_≡_, sym, ap, _∙_}
+use mathlib.Core.Path.{sym, ap, _∙_}
 use mathlib.Core.List.{List}
 use Prim.Native.Nat.{ℕ}
 use lib.ListN.{length}
@@ -11,37 +11,27 @@ use Rattle.typing.specs.Findings.{typing-long, typing-text, typing-fault
 use borrow.Author.Needs.{needs}
 use Rattle.typing.proofs.type_pattern.Statement.{statement}
 use Rattle.typing.proofs.type_pattern.Tie as tie
-use Rattle.typing.proofs.type_pattern.Reads as reads
-use Rattle.typing.proofs.type_pattern.Lts as lts
-use Rattle.text_tokens.proofs.grammar.check.Reads as check-reads
-use Rattle.typing.proofs.write_text.Reads as write-text-reads
 
--- src/lib.rt:79:9
 returns : tie.Need-returns
 returns c =
     let s = c .before .before .before in
     let is = typing-long (s .args .text .now) (length (s .args .out .now)) (c .if1 .taken) in
     promise (s .args .text .now) (s .args .out .now) _ _ (sym (ap written is)) (sym (ap (λ (f : Finding (List ℕ)). destinationAfter f (s .args .out .now)) is))
 
--- src/lib.rt:81:11
 check-requires : tie.Need-check-requires
 check-requires c κs = search needs
 
--- src/lib.rt:82:24
 enum-known-place : tie.Need-enum-known-place
 enum-known-place c = search needs
 
--- src/lib.rt:83:44
 enum-told : tie.Need-enum-told
 enum-told c = search needs
 
--- src/lib.rt:83:27
 write-text-requires : tie.Need-write-text-requires
 write-text-requires c κs =
     let s = c .before .before .before .before .before .before .before in
     (c .before .before .before .before .if1 .left, place-whole (s .args .text .now) (sym (c .before .before .before .check .ensures) ∙ ap grammarOf (c .before .enum-told .given .1)))
 
--- src/lib.rt:75:1
 returns-2 : tie.Need-returns-2
 returns-2 c =
     let s = c .before .before .before .before .before .before .before in
@@ -49,11 +39,9 @@ returns-2 c =
     let is = typing-fault (s .args .text .now) (length (s .args .out .now)) (c .before .before .before .before .if1 .left) _ fault in
     promise (s .args .text .now) (s .args .out .now) _ _ (sym (ap written is)) (sym (ap (λ (f : Finding (List ℕ)). destinationAfter f (s .args .out .now)) is))
 
--- src/lib.rt:75:1
 same-length : tie.Need-same-length
 same-length c = search needs
 
--- src/lib.rt:75:1
 returns-3 : tie.Need-returns-3
 returns-3 c =
     let s = c .before .before .before .before .before .before .before .before .before .before in

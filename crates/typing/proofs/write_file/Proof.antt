@@ -11,59 +11,45 @@ use Rattle.typing.specs.Written.{fileWith, front, front-four, within-sho
 use borrow.Author.Needs.{needs}
 use Rattle.typing.proofs.write_file.Statement.{statement}
 use Rattle.typing.proofs.write_file.Tie as tie
-use Rattle.typing.proofs.write_file.Reads as reads
-use Rattle.typing.proofs.write_file.Lts as lts
-use Rattle.wire.proofs.copy_at.Reads as copy-at-reads
 
--- src/lib.rt:34:17
 mul-bytes : tie.Need-mul-bytes
 mul-bytes c = search needs
 
--- src/lib.rt:35:20
 add-if1 : tie.Need-add-if1
 add-if1 c = search needs
 
--- src/lib.rt:36:9
 returns : tie.Need-returns
 returns c =
     let s = c .before .before .before in
     let is = within-short (s .args .n) (front (s .args .entries .now) (s .args .n)) (front-four (s .args .entries .now) (s .args .n) (s .pre)) (length (s .args .out .now)) (c .if1 .taken) in
     (sym (ap written is), sym (ap (λ (f : Finding (List ℕ)). destinationAfter f (s .args .out .now)) is))
 
--- src/lib.rt:38:27
 slice-aggregate-copy-at : tie.Need-slice-aggregate-copy-at
 slice-aggregate-copy-at c = search needs
 
--- src/lib.rt:38:5
 copy-at-requires : tie.Need-copy-at-requires
 copy-at-requires c κs = search needs
 
--- src/lib.rt:39:27
 slice-aggregate-copy-at-2 : tie.Need-slice-aggregate-copy-at-2
 slice-aggregate-copy-at-2 c =
     let s = c .before .before .before .before .before .before .before .before .before .before in
     sym (front-four (s .args .entries .now) (s .args .n) (s .pre))
 
--- src/lib.rt:39:5
 copy-at-requires-2 : tie.Need-copy-at-requires-2
 copy-at-requires-2 c κs =
     let s = c .before .before .before .before .before .before .before .before .before .before in
     let same = ap length (c .before .before .before .before .copy-at .ensures) ∙ length-from (s .args .out .now) 0 0 (80 ∷ 65 ∷ 84 ∷ 1 ∷ 0 ∷ s .args .n ∷ []) in
     omega (arith, same, front-four (s .args .entries .now) (s .args .n) (s .pre), c .before .before .before .before .before .before .before .if1 .left)
 
--- src/lib.rt:40:27
 add-t5 : tie.Need-add-t5
 add-t5 c = search needs
 
--- src/lib.rt:40:26
 cast-t19 : tie.Need-cast-t19
 cast-t19 c = search needs
 
--- src/lib.rt:29:1
 same-length : tie.Need-same-length
 same-length c = search needs
 
--- src/lib.rt:29:1
 returns-2 : tie.Need-returns-2
 returns-2 c =
     let s = c .before .before .before .before .before .before .before .before .before .before .before .before .before in

@@ -1,6 +1,6 @@
 -- `typing::write_text` meets its contract: the tokens that were read are the text's.
 -- Assumes nothing.
-use mathlib.Core.Path.{_≡_, refl, sym, ap, _∙_}
+use mathlib.Core.Path.{refl, sym, ap, _∙_}
 use mathlib.Core.List.{List}
 use Prim.Native.Nat.{ℕ}
 use lib.ListN.{length}
@@ -10,20 +10,13 @@ use Rattle.typing.specs.Written.{tokens-held, text-ranged, text-beyond}
 use borrow.Author.Needs.{needs}
 use Rattle.typing.proofs.write_text.Statement.{statement}
 use Rattle.typing.proofs.write_text.Tie as tie
-use Rattle.typing.proofs.write_text.Reads as reads
-use Rattle.typing.proofs.write_text.Lts as lts
-use Rattle.text_tokens.proofs.tokens.read_tokens.Reads as read-tokens-reads
-use Rattle.typing.proofs.write_tokens.Reads as write-tokens-reads
 
--- src/lib.rt:67:11
 read-tokens-requires : tie.Need-read-tokens-requires
 read-tokens-requires c κs = search needs
 
--- src/lib.rt:68:24
 enum-known-n : tie.Need-enum-known-n
 enum-known-n c = search needs
 
--- src/lib.rt:68:30
 write-tokens-requires : tie.Need-write-tokens-requires
 write-tokens-requires c κs =
     let s = c .before .before .before .before .before .before .before .before .before in
@@ -32,15 +25,12 @@ write-tokens-requires c κs =
     let held = tokens-held t (s .args .text .now) (s .pre .1 .1) _ (sym (ap rangedOf (c .before .before .before .n .given .1)) ∙ r .ensures .0) (r .last .1 .0) _ refl (s .pre .0) (r .ensures .1) in
     (held .0, (t, held .1))
 
--- src/lib.rt:69:24
 enum-known-place : tie.Need-enum-known-place
 enum-known-place c = search needs
 
--- src/lib.rt:60:1
 same-length : tie.Need-same-length
 same-length c = search needs
 
--- src/lib.rt:60:1
 returns : tie.Need-returns
 returns c =
     let s = c .before .before .before .before .before .before .before .before .before .before .before .before in
@@ -54,7 +44,6 @@ returns c =
           done .ensures .1 t (held .1) ∙ ap (λ (f : Finding (List ℕ)). destinationAfter f (s .args .out .now)) (text-ranged t (s .args .text .now) e _ answer room),
     )
 
--- src/lib.rt:60:1
 returns-2 : tie.Need-returns-2
 returns-2 c =
     let s = c .before .before .before .before .before .before .before in

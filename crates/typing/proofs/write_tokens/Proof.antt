@@ -2,7 +2,7 @@
 -- Assumes nothing.
 use mathlib.Core.Path.{_≡_, refl, sym, ap, _∙_}
 use mathlib.Core.List.{List}
-use Prim.Native.Nat.{ℕ, _≤_}
+use Prim.Native.Nat.{ℕ}
 use native.Mathlib.Omega.{arith}
 use lib.ListN.{length, take}
 use Rattle.pattern.specs.Checks.Finding.{Finding, refused, written, destinationAfter}
@@ -13,17 +13,10 @@ use Rattle.typing.specs.Written.{TokensOf, bytesWithin, front, CellsOf, 
 use borrow.Author.Needs.{needs}
 use Rattle.typing.proofs.write_tokens.Statement.{statement}
 use Rattle.typing.proofs.write_tokens.Tie as tie
-use Rattle.typing.proofs.write_tokens.Reads as reads
-use Rattle.typing.proofs.write_tokens.Lts as lts
-use Rattle.text_cells.proofs.build.Reads as build-reads
-use Rattle.text_entries.proofs.complete.Reads as complete-reads
-use Rattle.typing.proofs.write_file.Reads as write-file-reads
 
--- src/lib.rt:51:9
 build-requires : tie.Need-build-requires
 build-requires c κs = search needs
 
--- src/lib.rt:53:11
 -- the cells are those of every text with these tokens
 held : (c : tie.After-build) → (t : NodeText) → TokensOf t (take (c .before .before .before .args .n) (c .before .before .before .args .tokens .now))
     → CellsOf t (c .build .result) (c .build .last .1 .1 .0)
@@ -39,11 +32,9 @@ complete-requires c κs =
     let h = held (c .before .before) t (s .pre .1 .1) in
     (refl, ((h .some-cell, h .few-cells), (nodeTree t, h .root)))
 
--- src/lib.rt:54:27
 enum-known-k : tie.Need-enum-known-k
 enum-known-k c = search needs
 
--- src/lib.rt:54:44
 slice-aggregate-write-file : tie.Need-slice-aggregate-write-file
 slice-aggregate-write-file c =
     let s = c .before .before .before .before .before .before .before .before .before .before in
@@ -52,7 +43,6 @@ slice-aggregate-write-file c =
     let long = entries-after (entriesIn t) _ (c .before .before .before .before .complete .last .1 .1 .0) refl (c .before .before .before .before .complete .ensures .1 (nodeTree t) (h .root)) in
     sym long
 
--- src/lib.rt:54:33
 write-file-requires : tie.Need-write-file-requires
 write-file-requires c κs =
     let s = c .before .before .before .before .before .before .before .before .before .before .before in
@@ -62,15 +52,12 @@ write-file-requires c κs =
     let few = file-few t (length (s .args .out .now)) _ (sym (c .before .before .before .k .given .1) ∙ c .before .before .before .before .before .complete .ensures .0 (nodeTree t) (h .root)) in
     omega (arith, few, long)
 
--- src/lib.rt:55:50
 enum-told : tie.Need-enum-told
 enum-told c = search needs
 
--- src/lib.rt:44:1
 same-length : tie.Need-same-length
 same-length c = search needs
 
--- src/lib.rt:44:1
 returns : tie.Need-returns
 returns c =
     let s = c .before .before .before .before .before .before .before .before .before .before .before .before .before .before in
@@ -83,7 +70,6 @@ returns c =
       λ t w. c .before .before .write-file .ensures .1 ∙ ap (λ (f : Finding (List ℕ)). destinationAfter f (s .args .out .now)) (is t w),
     )
 
--- src/lib.rt:44:1
 returns-2 : tie.Need-returns-2
 returns-2 c =
     let s = c .before .before .before .before .before .before .before .before in

@@ -4,18 +4,13 @@ use borrow.Author.Needs.{needs}
 use borrow.Author.Tests.{eq-eqb, ne-eqb}
 use Rattle.text_cells.proofs.letters.bar_mark.Statement.{statement}
 use Rattle.text_cells.proofs.letters.bar_mark.Tie as tie
-use Rattle.text_cells.proofs.letters.bar_mark.Reads as reads
-use Rattle.text_cells.proofs.letters.bar_mark.Lts as lts
 
--- src/letters.rt:71:9
 returns : tie.Need-returns
 returns c = rw (eq-eqb _ 0 (c .if1 .taken))
 
--- src/letters.rt:73:5
 mul-result : tie.Need-mul-result
 mul-result c = search needs
 
--- src/letters.rt:67:1
 returns-2 : tie.Need-returns-2
 returns-2 c = rw (ne-eqb _ 0 (c .if1 .left))
 

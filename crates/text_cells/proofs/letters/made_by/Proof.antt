@@ -5,106 +5,80 @@ use borrow.Author.Tests.{ne-eqb}
 use Rattle.text_cells.specs.Building.{madeBy}
 use Rattle.text_cells.proofs.letters.made_by.Statement.{statement}
 use Rattle.text_cells.proofs.letters.made_by.Tie as tie
-use Rattle.text_cells.proofs.letters.made_by.Reads as reads
-use Rattle.text_cells.proofs.letters.made_by.Lts as lts
-use Rattle.text_cells.proofs.letters.node.Reads as node-reads
-use Rattle.text_cells.proofs.letters.path.Reads as path-reads
 
--- src/letters.rt:36:17
 node-requires : tie.Need-node-requires
 node-requires c κs = search needs
 
--- src/letters.rt:37:17
 node-requires-2 : tie.Need-node-requires-2
 node-requires-2 c κs = search needs
 
--- src/letters.rt:38:17
 node-requires-3 : tie.Need-node-requires-3
 node-requires-3 c κs = search needs
 
--- src/letters.rt:39:17
 node-requires-4 : tie.Need-node-requires-4
 node-requires-4 c κs = search needs
 
--- src/letters.rt:40:17
 node-requires-5 : tie.Need-node-requires-5
 node-requires-5 c κs = search needs
 
--- src/letters.rt:41:17
 node-requires-6 : tie.Need-node-requires-6
 node-requires-6 c κs = search needs
 
--- src/letters.rt:42:17
 path-requires : tie.Need-path-requires
 path-requires c κs = search needs
 
--- src/letters.rt:43:17
 path-requires-2 : tie.Need-path-requires-2
 path-requires-2 c κs = search needs
 
--- src/letters.rt:44:17
 path-requires-3 : tie.Need-path-requires-3
 path-requires-3 c κs = search needs
 
--- src/letters.rt:45:17
 path-requires-4 : tie.Need-path-requires-4
 path-requires-4 c κs = search needs
 
--- src/letters.rt:46:14
 node-requires-7 : tie.Need-node-requires-7
 node-requires-7 c κs = search needs
 
--- src/letters.rt:32:1
 returns : tie.Need-returns
 unfolding madeBy
 returns c = rw (c .before .match .keys1) (c .node .ensures)
 
--- src/letters.rt:32:1
 returns-2 : tie.Need-returns-2
 unfolding madeBy
 returns-2 c = rw (c .before .match .keys2) (c .node2 .ensures)
 
--- src/letters.rt:32:1
 returns-3 : tie.Need-returns-3
 unfolding madeBy
 returns-3 c = rw (c .before .match .keys3) (c .node3 .ensures)
 
--- src/letters.rt:32:1
 returns-4 : tie.Need-returns-4
 unfolding madeBy
 returns-4 c = rw (c .before .match .keys4) (c .node4 .ensures)
 
--- src/letters.rt:32:1
 returns-5 : tie.Need-returns-5
 unfolding madeBy
 returns-5 c = rw (c .before .match .keys5) (c .node5 .ensures)
 
--- src/letters.rt:32:1
 returns-6 : tie.Need-returns-6
 unfolding madeBy
 returns-6 c = rw (c .before .match .keys6) (c .node6 .ensures)
 
--- src/letters.rt:32:1
 returns-7 : tie.Need-returns-7
 unfolding madeBy
 returns-7 c = rw (c .before .match .keys7) (c .path .ensures)
 
--- src/letters.rt:32:1
 returns-8 : tie.Need-returns-8
 unfolding madeBy
 returns-8 c = rw (c .before .match .keys8) (c .path2 .ensures)
 
--- src/letters.rt:32:1
 returns-9 : tie.Need-returns-9
 unfolding madeBy
 returns-9 c = rw (c .before .match .keys9) (c .path3 .ensures)
 
--- src/letters.rt:32:1
 returns-10 : tie.Need-returns-10
 unfolding madeBy
 returns-10 c = rw (c .before .match .keys10) (c .path4 .ensures)
 
--- src/letters.rt:32:1
 returns-11 : tie.Need-returns-11
 unfolding madeBy
 returns-11 c =

@@ -5,106 +5,79 @@ use borrow.Author.Tests.{ne-eqb}
 use Rattle.text_cells.specs.Building.{marksBy}
 use Rattle.text_cells.proofs.letters.marks_by.Statement.{statement}
 use Rattle.text_cells.proofs.letters.marks_by.Tie as tie
-use Rattle.text_cells.proofs.letters.marks_by.Reads as reads
-use Rattle.text_cells.proofs.letters.marks_by.Lts as lts
-use Rattle.text_cells.proofs.letters.bar_mark.Reads as bar-mark-reads
-use Rattle.text_cells.proofs.letters.with_marks.Reads as with-marks-reads
 
--- src/letters.rt:81:31
 mul-with-marks : tie.Need-mul-with-marks
 mul-with-marks c = search needs
 
--- src/letters.rt:81:17
 with-marks-requires : tie.Need-with-marks-requires
 with-marks-requires c κs = search needs
 
--- src/letters.rt:82:31
 bar-mark-requires : tie.Need-bar-mark-requires
 bar-mark-requires c κs = search needs
 
--- src/letters.rt:82:17
 with-marks-requires-2 : tie.Need-with-marks-requires-2
 with-marks-requires-2 c κs = search needs
 
--- src/letters.rt:83:17
 with-marks-requires-3 : tie.Need-with-marks-requires-3
 with-marks-requires-3 c κs = search needs
 
--- src/letters.rt:84:31
 mul-with-marks-2 : tie.Need-mul-with-marks-2
 mul-with-marks-2 c = search needs
 
--- src/letters.rt:84:17
 with-marks-requires-4 : tie.Need-with-marks-requires-4
 with-marks-requires-4 c κs = search needs
 
--- src/letters.rt:85:31
 mul-with-marks-3 : tie.Need-mul-with-marks-3
 mul-with-marks-3 c = search needs
 
--- src/letters.rt:85:31
 add-with-marks : tie.Need-add-with-marks
 add-with-marks c = search needs
 
--- src/letters.rt:85:48
 mul-with-marks-4 : tie.Need-mul-with-marks-4
 mul-with-marks-4 c = search needs
 
--- src/letters.rt:85:17
 with-marks-requires-5 : tie.Need-with-marks-requires-5
 with-marks-requires-5 c κs = search needs
 
--- src/letters.rt:86:31
 mul-with-marks-5 : tie.Need-mul-with-marks-5
 mul-with-marks-5 c = search needs
 
--- src/letters.rt:86:31
 add-with-marks-2 : tie.Need-add-with-marks-2
 add-with-marks-2 c = search needs
 
--- src/letters.rt:86:48
 mul-with-marks-6 : tie.Need-mul-with-marks-6
 mul-with-marks-6 c = search needs
 
--- src/letters.rt:86:17
 with-marks-requires-6 : tie.Need-with-marks-requires-6
 with-marks-requires-6 c κs = search needs
 
--- src/letters.rt:87:14
 with-marks-requires-7 : tie.Need-with-marks-requires-7
 with-marks-requires-7 c κs = search needs
 
--- src/letters.rt:76:1
 returns : tie.Need-returns
 unfolding marksBy
 returns c = rw (c .before .match .keys1) (c .with-marks .ensures)
 
--- src/letters.rt:76:1
 returns-2 : tie.Need-returns-2
 unfolding marksBy
 returns-2 c = rw (c .before .before .match .keys2, ← c .before .bar-mark .ensures) (c .with-marks2 .ensures)
 
--- src/letters.rt:76:1
 returns-3 : tie.Need-returns-3
 unfolding marksBy
 returns-3 c = rw (c .before .match .keys3) (c .with-marks3 .ensures)
 
--- src/letters.rt:76:1
 returns-4 : tie.Need-returns-4
 unfolding marksBy
 returns-4 c = rw (c .before .match .keys4) (c .with-marks4 .ensures)
 
--- src/letters.rt:76:1
 returns-5 : tie.Need-returns-5
 unfolding marksBy
 returns-5 c = rw (c .before .match .keys5) (c .with-marks5 .ensures)
 
--- src/letters.rt:76:1
 returns-6 : tie.Need-returns-6
 unfolding marksBy
 returns-6 c = rw (c .before .match .keys6) (c .with-marks6 .ensures)
 
--- src/letters.rt:76:1
 returns-7 : tie.Need-returns-7
 unfolding marksBy
 returns-7 c =

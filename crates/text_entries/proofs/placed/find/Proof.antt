@@ -9,9 +9,6 @@ use Rattle.typed_file.specs.Entries.{Found, findFrom}
 use Rattle.text_entries.specs.Placing.{entryOf, entriesFrom, numberFound, found-here, found-later, found-nowhere}
 use Rattle.text_entries.proofs.placed.find.Statement.{statement}
 use Rattle.text_entries.proofs.placed.find.Tie as tie
-use Rattle.text_entries.proofs.placed.find.Reads as reads
-use Rattle.text_entries.proofs.placed.find.Lts as lts
-use Rattle.text_entries.proofs.placed.is_entry.Reads as is-entry-reads
 
 abbrev Inv-loop : tie.InvT-loop
 Inv-loop entries n kind x y z i₀ i =
@@ -20,17 +17,14 @@ Inv-loop entries n kind x y z i₀ i =
 abbrev μ-loop : tie.MeasureT-loop
 μ-loop entries n kind x y z i₀ i = n - i
 
--- src/placed.rt:26:5
 loop-holds : tie.Need-loop-holds Inv-loop μ-loop
 loop-holds c =
     let a = c .args in
     (omega arith, ap (λ (m : ℕ). findFrom (entriesFrom m 0 (a .entries .now)) (entryOf (a .kind) (a .x) (a .y) (a .z)) 0) (sub-zero (a .n)))
 
--- src/placed.rt:27:12
 is-entry-requires : tie.Need-is-entry-requires Inv-loop μ-loop
 is-entry-requires c κs = omega (arith, c .loop-test .taken, c .before .before .pre)
 
--- src/placed.rt:28:13
 returns : tie.Need-returns Inv-loop μ-loop
 returns c =
     let l = c .before .before .before in
@@ -38,15 +32,12 @@ returns c =
     (sym (found-here (l .before .args .entries .now) _ (l .before .args .n) (l .loop .i) (c .before .before .loop-test .taken)
     (sym (c .before .is-entry .ensures) ∙ c .if1 .taken)) ∙ l .loop .inv .1)
 
--- src/placed.rt:30:9
 add-i : tie.Need-add-i Inv-loop μ-loop
 add-i c = search needs
 
--- src/placed.rt:26:5
 loop-less : tie.Need-loop-less Inv-loop μ-loop
 loop-less c = search needs
 
--- src/placed.rt:26:5
 loop-again : tie.Need-loop-again Inv-loop μ-loop
 loop-again c =
     let l = c .before .before .before in (
@@ -55,7 +46,6 @@ loop-again c =
           (sym (c .before .is-entry .ensures) ∙ c .if1 .left) ∙ l .loop .inv .1,
     )
 
--- src/placed.rt:21:1
 returns-2 : tie.Need-returns-2 Inv-loop μ-loop
 returns-2 c =
     let l = c .before in

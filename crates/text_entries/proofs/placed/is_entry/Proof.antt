@@ -4,54 +4,40 @@ use borrow.Author.Needs.{needs}
 use borrow.Author.Tests.{eq-eqb, ne-eqb}
 use Rattle.text_entries.proofs.placed.is_entry.Statement.{statement}
 use Rattle.text_entries.proofs.placed.is_entry.Tie as tie
-use Rattle.text_entries.proofs.placed.is_entry.Reads as reads
-use Rattle.text_entries.proofs.placed.is_entry.Lts as lts
 
--- src/placed.rt:16:14
 mul-at : tie.Need-mul-at
 mul-at c = search needs
 
--- src/placed.rt:17:5
 element-copy-out-if1 : tie.Need-element-copy-out-if1
 element-copy-out-if1 c = search needs
 
--- src/placed.rt:17:37
 add-if2 : tie.Need-add-if2
 add-if2 c = search needs
 
--- src/placed.rt:17:29
 element-copy-out-if2 : tie.Need-element-copy-out-if2
 element-copy-out-if2 c = search needs
 
--- src/placed.rt:17:62
 add-if3 : tie.Need-add-if3
 add-if3 c = search needs
 
--- src/placed.rt:17:54
 element-copy-out-if3 : tie.Need-element-copy-out-if3
 element-copy-out-if3 c = search needs
 
--- src/placed.rt:17:86
 add-result : tie.Need-add-result
 add-result c = search needs
 
--- src/placed.rt:17:78
 element-copy-out-result : tie.Need-element-copy-out-result
 element-copy-out-result c = search needs
 
--- src/placed.rt:12:1
 returns : tie.Need-returns
 returns c = rw (eq-eqb _ _ (c .before .before .before .before .before .if1 .taken), eq-eqb _ _ (c .before .before .before .if2 .taken), eq-eqb _ _ (c .before .if3 .taken))
 
--- src/placed.rt:12:1
 returns-2 : tie.Need-returns-2
 returns-2 c = rw (eq-eqb _ _ (c .before .before .before .before .if1 .taken), eq-eqb _ _ (c .before .before .if2 .taken), ne-eqb _ _ (c .if3 .left))
 
--- src/placed.rt:12:1
 returns-3 : tie.Need-returns-3
 returns-3 c = rw (eq-eqb _ _ (c .before .before .if1 .taken), ne-eqb _ _ (c .if2 .left))
 
--- src/placed.rt:12:1
 returns-4 : tie.Need-returns-4
 returns-4 c = rw (ne-eqb _ _ (c .if1 .left))
 

@@ -1,34 +1,25 @@
 -- `text_entries::placed::place` meets its contract: a new entry is stored behind the others, by `stored-new`.
 -- Assumes nothing.
-use mathlib.Core.Path.{_≡_, sym, _∙_}
+use mathlib.Core.Path.{sym, _∙_}
 use mathlib.Core.List.{[], _∷_}
 use Rattle.typed_file.specs.Entries.{findFrom}
 use Rattle.text_entries.specs.Placing.{entryOf, entriesFrom, among, stored-new, stored-full, stored-old}
 use borrow.Author.Needs.{needs}
 use Rattle.text_entries.proofs.placed.place.Statement.{statement}
 use Rattle.text_entries.proofs.placed.place.Tie as tie
-use Rattle.text_entries.proofs.placed.place.Reads as reads
-use Rattle.text_entries.proofs.placed.place.Lts as lts
-use Rattle.text_entries.proofs.placed.find.Reads as find-reads
-use Rattle.wire.proofs.copy_at.Reads as copy-at-reads
 
--- src/placed.rt:43:9
 find-requires : tie.Need-find-requires
 find-requires c κs = search needs
 
--- src/placed.rt:46:36
 mul-copy-at : tie.Need-mul-copy-at
 mul-copy-at c = search needs
 
--- src/placed.rt:46:52
 slice-aggregate-copy-at : tie.Need-slice-aggregate-copy-at
 slice-aggregate-copy-at c = search needs
 
--- src/placed.rt:46:13
 copy-at-requires : tie.Need-copy-at-requires
 copy-at-requires c κs = search needs
 
--- src/placed.rt:37:1
 returns : tie.Need-returns
 returns c =
     let a = c .before .before .before .before .before .before .before .args in
@@ -41,7 +32,6 @@ returns c =
           ∙ stored-new f (a .n) four (a .entries .now) (among (a .entries .now) e (a .n)) (sym number ∙ c .before .before .before .before .if1 .taken) (c .before .before .before .if2 .taken),
     )
 
--- src/placed.rt:37:1
 returns-2 : tie.Need-returns-2
 returns-2 c =
     let a = c .before .before .before .before .args in
@@ -51,7 +41,6 @@ returns-2 c =
     let number = c .before .before .find .ensures in
     (number, stored-full f (a .n) four (a .entries .now) (c .if2 .left))
 
--- src/placed.rt:37:1
 returns-3 : tie.Need-returns-3
 returns-3 c =
     let a = c .before .before .before .args in
