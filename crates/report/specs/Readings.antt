@@ -16,7 +16,7 @@ use Rattle.pattern.specs.declared.types.Comparison.{Comparison}
 use Rattle.pattern.specs.Logic.Syntax.{NExp}
 use Rattle.pattern.specs.Logic.Semantics.{Model, Naming, Holds}
 use Rattle.pattern.specs.Logic.Finite.{Finite, Named, modelOf, namingOf}
-use Rattle.pattern.specs.Checks.Finding.{Finding, found, refused, Check, passes, refuses, destinationAfter}
+use Rattle.pattern.specs.Checks.Finding.{Finding, found, refused, Check, passes, refuses, written, destinationAfter}
 use Rattle.pattern.specs.Checks.Range.{someBelow, eachBelow}
 use Rattle.pattern.specs.File.Fields.{eachField}
 use Rattle.pattern.specs.File.Entries.{sameBytes}
@@ -292,7 +292,7 @@ Job6 =
 -- first digit; 32, last, over 255 different entries or a destination too short." G typed, with room for just its file and with one byte less;
 -- a test's node before the rest of its row, a step behind it; what follows a brace, for both of its paths, once; an empty brace; an equal
 -- entry once. Each number at its limit, or one above it. A fault at the end, and 31 not before it; leading zeros; the empty text; a line
--- feed; Job 8's `^`; 1,024 bytes that begin a text, and 1,025. What becomes of a destination of 12 bytes, and of one that is too short.
+-- feed; Job 8's `^`; 255 entries and 256; 1,024 bytes that begin a text, and 1,025. What becomes of a destination of 12 bytes, and of one that is too short.
 abbrev pub Types : String → ℕ → ℕ → List ℕ → Type 0
 Types words room n entries = typing.typingOf (text words) room ≡ found (patternFile n entries)
 
@@ -317,6 +317,8 @@ Job7 =
     × TurnsAway "" 30 0
     × TurnsAway "p0\n" 30 2
     × TurnsAway "[^0=0]" 30 1
+    × (written (typing.typingOf (replicate 254 33 ++ text "p0") 1026) ≡ found 1026)
+    × (typing.typingOf (replicate 255 33 ++ text "p0") 1026 ≡ refused 32 0)
     × (typing.typingOf (replicate 1024 33) 1026 ≡ refused 30 1024)
     × (typing.typingOf (replicate 1025 33) 1026 ≡ refused 30 0)
     × (destinationAfter (typing.typingOf (text "p7") 12) (replicate 12 9) ≡ patternFile 1 (1 ∷ 7 ∷ 0 ∷ 0 ∷ []) ++ (9 ∷ 9 ∷ []))
@@ -400,6 +402,11 @@ p31 = NodeText.property (Numeral.from 51 (49 ∷ []) refl refl)
 abbrev stepOn : Numeral → RowText
 stepOn k = RowText.step k RowText.end
 
+-- so many nots of a text
+abbrev nots : ℕ → NodeText → NodeText
+nots ℕ.zero t = t
+nots (ℕ.suc n) t = NodeText.not (nots n t)
+
 abbrev textG : NodeText
 textG = NodeText.both (NodeText.same (stepOn zero) zero (stepOn one)) (NodeText.differ (stepOn zero) zero (stepOn one))
 
@@ -422,6 +429,8 @@ Job7-holds = (
   by-place _ 1026 0 refl refl,
   by-place _ 1026 2 refl refl,
   by-place _ 1026 1 refl refl,
+  ap written (by-tree (nots 254 (NodeText.property zero)) _ 1026 _ refl refl refl),
+  by-tree (nots 255 (NodeText.property zero)) _ 1026 _ refl refl refl,
   by-place (replicate 1024 33) 1026 1024 refl refl,
   typing-long (replicate 1025 33) 1026 (ltb-true 1024 (length {A = ℕ} (replicate 1025 33)) refl),
   ap (λ (f : Finding (List ℕ)). destinationAfter f (replicate 12 9)) (by-tree (NodeText.property (digit 55 refl)) _ 12 _ refl refl refl),
