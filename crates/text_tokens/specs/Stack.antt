@@ -1,33 +1,34 @@
 -- The automaton's stack as bytes.
 -- Assumes nothing.
-use mathlib.Core.Bool.{Bool, true}
+use mathlib.Core.Bool.{Bool}
 use mathlib.Core.List.{List, [], _∷_}
 use Prim.Native.Nat.{ℕ}
-use lib.Dec.{eqb}
-use lib.ListN.{getD}
+use lib.Dec.{ltb}
+use lib.ListN.{getD, drop}
 use Rattle.wire.specs.Choice.{pick}
 use Rattle.typed_text.specs.Machine.{Want, node, row, number, digits, byte, oneOf, Next, none, some, takes, optional, Place, whole, fault}
 use Rattle.text_tokens.specs.declared.grammar.Grammar.{Grammar}
+use Rattle.text_tokens.specs.declared.grammar.Wants.{Wants}
 
 -- what a byte of the stack wants: 1 to 6 as this says, any other itself
 abbrev pub wantOf : ℕ → Want
 wantOf w = getD (byte 0 ∷ node ∷ row ∷ number ∷ digits ∷ oneOf 38 124 ∷ oneOf 61 35 ∷ []) w (byte w)
 
--- what the bytes of a stack want: 0 wants nothing
+-- what the bytes of a stack want
 abbrev pub wants : List ℕ → List Want
 wants [] = []
-wants (w ∷ ws) = pick (eqb w 0) (wants ws) (wantOf w ∷ wants ws)
+wants (w ∷ ws) = wantOf w ∷ wants ws
 
--- new wants as bytes: 7 stands first where there are none, since a byte can't be taken
-abbrev pub newWants : List ℕ → Next
-newWants new = pick (eqb (getD new 0 0) 7) none (some (wants new))
+-- new wants as bytes, those from a place on: 6 is the place where there are none, since a byte can't be taken
+abbrev pub newWants : Wants → Next
+newWants new = pick (ltb (new .0) 6) (some (wants (drop (new .0) (new .1)))) none
 
 -- whether a byte of the stack takes a byte of the text, and what is wanted then
 abbrev pub taken : ℕ → ℕ → Next
-taken w b = pick (eqb w 0) none (takes (wantOf w) b)
+taken w b = takes (wantOf w) b
 
 abbrev pub passable : ℕ → Bool
-passable w = pick (eqb w 0) true (optional (wantOf w))
+passable w = optional (wantOf w)
 
 abbrev pub grammarOf : Grammar → Place
 grammarOf Grammar.Whole = whole

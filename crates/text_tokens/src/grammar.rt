@@ -1,6 +1,6 @@
 // Refusal 30: whether a text is in the grammar, and otherwise the first place that no text of the grammar
 // can have so. What is still wanted for the text to be whole lies on a stack, one byte a want, which grows
-// down from the end of an array: a byte takes one want and puts five in its place, some of them nothing.
+// down from the end of an array: a byte takes one want and puts at most five in its place.
 ghost use mathlib.Core.Path.{_≡_};
 ghost use mathlib.Core.Bool.{_&&_};
 ghost use mathlib.Core.List.{[], _∷_};
@@ -16,9 +16,7 @@ pub enum Grammar {
     Fault(u16),
 }
 
-// What a byte of the stack wants: nothing, a text, a byte of two, or else the byte that it is.
-const NOTHING: u8 = 0;
-
+// What a byte of the stack wants: a text, a byte of two, or else the byte that it is.
 const NODE: u8 = 1;
 
 const ROW: u8 = 2;
@@ -31,82 +29,85 @@ const AND_OR: u8 = 5;
 
 const SAME_DIFFER: u8 = 6;
 
-// Stands first where a byte can't be taken.
-const REFUSED: u8 = 7;
+// New wants, the topmost first: the bytes from this place on. Those before it mean nothing: they are there
+// so that it is always five that are stored.
+struct Wants(usize, [u8; 5]);
+
+// That place where a byte can't be taken: there are no new wants.
+const REFUSED: usize = 6;
 
 // Room for the first want and, since a byte leaves at most four more than there were, for 1,024 bytes.
 const STACK: usize = 4097;
 
 // What is wanted behind the first byte of a node text.
-fn behind_node(byte: u8) -> [u8; 5]
+fn behind_node(byte: u8) -> Wants
     ensures { λ r. ⌜ newWants r ≡ nodeTakes byte ⌝ }
 {
     match byte {
-        b'p' => [0, 0, 0, 0, NUMBER],
-        b'n' => [0, 0, 0, 0, NUMBER],
-        b'!' => [0, 0, 0, 0, NODE],
-        b'(' => [0, NODE, AND_OR, NODE, b')'],
-        b'<' => [0, 0, NUMBER, b'>', NODE],
-        b'[' => [ROW, SAME_DIFFER, NUMBER, ROW, b']'],
-        _ => [REFUSED, 0, 0, 0, 0],
+        b'p' => Wants(4, [0, 0, 0, 0, NUMBER]),
+        b'n' => Wants(4, [0, 0, 0, 0, NUMBER]),
+        b'!' => Wants(4, [0, 0, 0, 0, NODE]),
+        b'(' => Wants(1, [0, NODE, AND_OR, NODE, b')']),
+        b'<' => Wants(2, [0, 0, NUMBER, b'>', NODE]),
+        b'[' => Wants(0, [ROW, SAME_DIFFER, NUMBER, ROW, b']']),
+        _ => Wants(REFUSED, [0, 0, 0, 0, 0]),
     }
 }
 
 // What is wanted behind the first byte of a row.
-fn behind_row(byte: u8) -> [u8; 5]
+fn behind_row(byte: u8) -> Wants
     ensures { λ r. ⌜ newWants r ≡ rowTakes byte ⌝ }
 {
     match byte {
-        b'/' => [0, 0, 0, NUMBER, ROW],
-        b'@' => [0, 0, 0, NUMBER, ROW],
-        b'?' => [0, 0, 0, NODE, ROW],
-        b'{' => [ROW, b'|', ROW, b'}', ROW],
-        _ => [REFUSED, 0, 0, 0, 0],
+        b'/' => Wants(3, [0, 0, 0, NUMBER, ROW]),
+        b'@' => Wants(3, [0, 0, 0, NUMBER, ROW]),
+        b'?' => Wants(3, [0, 0, 0, NODE, ROW]),
+        b'{' => Wants(0, [ROW, b'|', ROW, b'}', ROW]),
+        _ => Wants(REFUSED, [0, 0, 0, 0, 0]),
     }
 }
 
 // What is wanted behind a byte that goes on with a number: a digit from the lowest on.
-fn behind_digit(lowest: u8, byte: u8) -> [u8; 5]
+fn behind_digit(lowest: u8, byte: u8) -> Wants
     ensures { λ r. ⌜ newWants r ≡ pick (leb lowest byte && leb byte 57) (some (digits ∷ [])) none ⌝ }
 {
     if byte < lowest {
-        return [REFUSED, 0, 0, 0, 0];
+        return Wants(REFUSED, [0, 0, 0, 0, 0]);
     }
     if byte <= b'9' {
-        return [0, 0, 0, 0, DIGITS];
+        return Wants(4, [0, 0, 0, 0, DIGITS]);
     }
-    [REFUSED, 0, 0, 0, 0]
+    Wants(REFUSED, [0, 0, 0, 0, 0])
 }
 
 // What is wanted behind the first byte of a number: behind `0` nothing.
-fn behind_number(byte: u8) -> [u8; 5]
+fn behind_number(byte: u8) -> Wants
     ensures { λ r. ⌜ newWants r ≡ takes number byte ⌝ }
 {
-    if byte == b'0' {
-        return [0, 0, 0, 0, NOTHING];
+    if byte != b'0' {
+        return behind_digit(b'1', byte);
     }
-    behind_digit(b'1', byte)
+    Wants(5, [0, 0, 0, 0, 0])
 }
 
 // What is wanted behind one of two bytes: nothing.
-fn behind_either(first: u8, second: u8, byte: u8) -> [u8; 5]
+fn behind_either(first: u8, second: u8, byte: u8) -> Wants
     ensures { λ r. ⌜ newWants r ≡ takes (oneOf first second) byte ⌝ }
 {
     if byte == first {
-        return [0, 0, 0, 0, 0];
+        return Wants(5, [0, 0, 0, 0, 0]);
     }
     if byte == second {
-        return [0, 0, 0, 0, 0];
+        return Wants(5, [0, 0, 0, 0, 0]);
     }
-    [REFUSED, 0, 0, 0, 0]
+    Wants(REFUSED, [0, 0, 0, 0, 0])
 }
 
 // What is wanted behind a byte where this was wanted.
-fn behind(want: u8, byte: u8) -> [u8; 5]
+fn behind(want: u8, byte: u8) -> Wants
     ensures { λ r. ⌜ newWants r ≡ taken want byte ⌝ }
 {
     match want {
-        NOTHING => [REFUSED, 0, 0, 0, 0],
         NODE => behind_node(byte),
         ROW => behind_row(byte),
         NUMBER => behind_number(byte),
@@ -122,7 +123,6 @@ fn may_pass(want: u8) -> bool
     ensures { λ r. ⌜ r ≡ passable want ⌝ }
 {
     match want {
-        NOTHING => true,
         ROW => true,
         DIGITS => true,
         _ => false,
@@ -149,7 +149,7 @@ pub fn check(text: &[u8]) -> Grammar
     requires { ⌜ length (now text) ≤ 1024 ⌝ }
     ensures { λ r. ⌜ grammarOf r ≡ placeOf (now (text .entry)) ⌝ }
 {
-    let mut stack = [NOTHING; STACK];
+    let mut stack = [0u8; STACK];
     let mut at = STACK - 1;
     stack[at] = NODE;
     let mut i = 0;
@@ -159,10 +159,15 @@ pub fn check(text: &[u8]) -> Grammar
         }
         let want = stack[at];
         let new = behind(want, text[i]);
-        if new[0] != REFUSED {
-            at -= 4;
-            wire::copy_at(&mut stack, at, &new);
+        if new.0 < REFUSED {
             i += 1;
+            // A digit behind a digit leaves the stack as it is.
+            if want != DIGITS {
+                at -= 4;
+                let bytes = new.1;
+                wire::copy_at(&mut stack, at, &bytes);
+                at += new.0;
+            }
         } else {
             if !may_pass(want) {
                 return Grammar::Fault(i as u16);

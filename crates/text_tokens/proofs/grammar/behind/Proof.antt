@@ -28,30 +28,27 @@ behind-either-requires-3 : tie.Need-behind-either-requires-3
 behind-either-requires-3 c κs = search needs
 
 returns : tie.Need-returns
-returns c = rw (c .match .keys1)
+returns c = rw (c .before .match .keys1) (c .behind-node .ensures)
 
 returns-2 : tie.Need-returns-2
-returns-2 c = rw (c .before .match .keys2) (c .behind-node .ensures)
+returns-2 c = rw (c .before .match .keys2) (c .behind-row .ensures)
 
 returns-3 : tie.Need-returns-3
-returns-3 c = rw (c .before .match .keys3) (c .behind-row .ensures)
+returns-3 c = rw (c .before .match .keys3) (c .behind-number .ensures)
 
 returns-4 : tie.Need-returns-4
-returns-4 c = rw (c .before .match .keys4) (c .behind-number .ensures)
+returns-4 c = rw (c .before .match .keys4) (c .behind-digit .ensures)
 
 returns-5 : tie.Need-returns-5
-returns-5 c = rw (c .before .match .keys5) (c .behind-digit .ensures)
+returns-5 c = rw (c .before .match .keys5) (c .behind-either .ensures)
 
 returns-6 : tie.Need-returns-6
-returns-6 c = rw (c .before .match .keys6) (c .behind-either .ensures)
+returns-6 c = rw (c .before .match .keys6) (c .behind-either2 .ensures)
 
 returns-7 : tie.Need-returns-7
-returns-7 c = rw (c .before .match .keys7) (c .behind-either2 .ensures)
-
-returns-8 : tie.Need-returns-8
-returns-8 c = let r = c .before .match .rest in
+returns-7 c = let r = c .before .match .rest in
     let w = c .before .before .args .want in
-    c .behind-either3 .ensures ∙ sym (itself w _ (r .0 .0 .0 .0 .0 .0 .1) (r .0 .0 .0 .0 .0 .1) (r .0 .0 .0 .0 .1) (r .0 .0 .0 .1) (r .0 .0 .1) (r .0 .1) (r .1))
+    c .behind-either3 .ensures ∙ sym (itself w _ (r .0 .0 .0 .0 .0 .1) (r .0 .0 .0 .0 .1) (r .0 .0 .0 .1) (r .0 .0 .1) (r .0 .1) (r .1))
 
 pub behind-spec : {M : Type 1} → statement M
 behind-spec =
@@ -70,5 +67,4 @@ behind-spec =
     returns-4
     returns-5
     returns-6
-    returns-7
-    returns-8)
+    returns-7)

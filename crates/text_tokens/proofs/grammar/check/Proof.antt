@@ -4,11 +4,12 @@ use borrow.Author.Needs.{needs}
 use mathlib.Core.Path.{_≡_, refl, sym, ap, _∙_}
 use Prim.Native.Nat.{_+_, _*_, _-_, _≤_}
 use native.Mathlib.Omega.{arith}
-use lib.ListN.{length}
+use lib.ListN.{length, drop}
 use borrow.Author.Tests.{not-true, not-false}
 use Rattle.wire.specs.Blocks.{length-from}
 use Rattle.typed_text.specs.Machine.{placeOf, endPlace}
-use Rattle.text_tokens.specs.Taking.{placeAt, place-empty, place-stuck, place-passed, place-taken, place-end, new-taken, new-refused}
+use Rattle.text_tokens.specs.Stack.{wants}
+use Rattle.text_tokens.specs.Taking.{placeAt, place-empty, place-stuck, place-passed, place-same, place-taken, place-end, new-taken, new-refused}
 use Rattle.text_tokens.proofs.grammar.check.Statement.{statement}
 use Rattle.text_tokens.proofs.grammar.check.Tie as tie
 
@@ -27,8 +28,8 @@ array-write-stack c = search needs
 loop-holds : tie.Need-loop-holds Inv-loop μ-loop
 loop-holds c = (search needs, search needs, search needs, search needs, refl)
 
-cast-t11 : tie.Need-cast-t11 Inv-loop μ-loop
-cast-t11 c = search needs
+cast-t12 : tie.Need-cast-t12 Inv-loop μ-loop
+cast-t12 c = search needs
 
 returns : tie.Need-returns Inv-loop μ-loop
 returns c = let l = c .before .before in
@@ -44,8 +45,8 @@ shared-slice-read-behind c = search needs
 behind-requires : tie.Need-behind-requires Inv-loop μ-loop
 behind-requires c κs = search needs
 
-array-read-if2 : tie.Need-array-read-if2 Inv-loop μ-loop
-array-read-if2 c = search needs
+add-i : tie.Need-add-i Inv-loop μ-loop
+add-i c = search needs
 
 sub-at-2 : tie.Need-sub-at-2 Inv-loop μ-loop
 sub-at-2 c = search needs
@@ -57,44 +58,29 @@ slice-aggregate-copy-at-2 : tie.Need-slice-aggregate-copy-at-2 Inv-loop μ-loop
 slice-aggregate-copy-at-2 c = search needs
 
 copy-at-requires : tie.Need-copy-at-requires Inv-loop μ-loop
-copy-at-requires c κs = search needs
+copy-at-requires c κs = omega (arith, slice-aggregate-copy-at-2 c)
 
-add-i : tie.Need-add-i Inv-loop μ-loop
-add-i c = search needs
+add-at : tie.Need-add-at Inv-loop μ-loop
+add-at c = search needs
 
 loop-less : tie.Need-loop-less Inv-loop μ-loop
 loop-less c = search needs
 
 loop-again : tie.Need-loop-again Inv-loop μ-loop
-loop-again c = let b = c .before .before .before .before .before in
-    let l = b .before .before .before .before in
-    let a = l .before .before .args in (
-      search needs,
-      rw (c .before .copy-at .ensures, length-from) (l .loop .inv .1),
-      search needs,
-      search needs,
-      rw (c .before .copy-at .ensures)
-          (sym (place-taken (a .text .now) (l .loop .stack) (l .loop .at) (l .loop .i) (omega arith) (omega arith) (b .behind .result) (search needs) (omega arith)
-          (sym (b .behind .ensures) ∙ new-taken (b .behind .result) (c .before .before .before .before .if2 .taken)))
-          ∙ l .loop .inv .4),
-    )
-
-may-pass-requires : tie.Need-may-pass-requires Inv-loop μ-loop
-may-pass-requires c κs = search needs
-
-cast-t26 : tie.Need-cast-t26 Inv-loop μ-loop
-cast-t26 c = search needs
-
-returns-2 : tie.Need-returns-2 Inv-loop μ-loop
-returns-2 c = let b = c .before .before .before in
+loop-again c = let b = c .before .before .before .before .before .before .before .before .before in
     let l = b .before .before .before .before in
     let a = l .before .before .args in
-    sym (place-stuck (a .text .now) (l .loop .stack) (l .loop .at) (l .loop .i) (omega arith) (omega arith)
-    (sym (b .behind .ensures) ∙ new-refused (b .behind .result) (c .before .before .if2 .left)) (sym (c .before .may-pass .ensures) ∙ not-true _ (c .if3 .taken)))
-    ∙ l .loop .inv .4
-
-add-at : tie.Need-add-at Inv-loop μ-loop
-add-at c = search needs
+    let new = b .behind .result in
+    let few = c .before .before .before .before .before .before .before .if2 .taken in (
+      search needs,
+      rw (c .before .before .copy-at .ensures, length-from) (l .loop .inv .1),
+      search needs,
+      search needs,
+      rw (c .before .before .copy-at .ensures)
+          (sym (place-taken (a .text .now) (l .loop .stack) (l .loop .at) (l .loop .i) (omega arith) (omega arith) (new .0) (new .1)
+          (sym (slice-aggregate-copy-at-2 (c .before .before .before))) (omega (arith, few)) (omega arith) (sym (b .behind .ensures) ∙ new-taken new few))
+          ∙ l .loop .inv .4),
+    )
 
 loop-less-2 : tie.Need-loop-less-2 Inv-loop μ-loop
 loop-less-2 c = search needs
@@ -102,13 +88,47 @@ loop-less-2 c = search needs
 loop-again-2 : tie.Need-loop-again-2 Inv-loop μ-loop
 loop-again-2 c = let b = c .before .before .before in
     let l = b .before .before .before .before in
+    let a = l .before .before .args in
+    let new = b .behind .result in (
+      search needs,
+      search needs,
+      search needs,
+      search needs,
+      sym (place-same (a .text .now) (l .loop .stack) (l .loop .at) (l .loop .i) (omega arith) (omega arith) (c .if3 .left) (wants (drop (new .0) (new .1)))
+          (sym (b .behind .ensures) ∙ new-taken new (c .before .if2 .taken)))
+          ∙ l .loop .inv .4,
+    )
+
+may-pass-requires : tie.Need-may-pass-requires Inv-loop μ-loop
+may-pass-requires c κs = search needs
+
+cast-t25 : tie.Need-cast-t25 Inv-loop μ-loop
+cast-t25 c = search needs
+
+returns-2 : tie.Need-returns-2 Inv-loop μ-loop
+returns-2 c = let b = c .before .before .before .before in
+    let l = b .before .before .before .before in
+    let a = l .before .before .args in
+    sym (place-stuck (a .text .now) (l .loop .stack) (l .loop .at) (l .loop .i) (omega arith) (omega arith)
+    (sym (b .behind .ensures) ∙ new-refused (b .behind .result) (c .before .before .if2 .left)) (sym (c .before .may-pass .ensures) ∙ not-true _ (c .if4 .taken)))
+    ∙ l .loop .inv .4
+
+add-at-2 : tie.Need-add-at-2 Inv-loop μ-loop
+add-at-2 c = search needs
+
+loop-less-3 : tie.Need-loop-less-3 Inv-loop μ-loop
+loop-less-3 c = search needs
+
+loop-again-3 : tie.Need-loop-again-3 Inv-loop μ-loop
+loop-again-3 c = let b = c .before .before .before .before in
+    let l = b .before .before .before .before in
     let a = l .before .before .args in (
       search needs,
       search needs,
       search needs,
       search needs,
       sym (place-passed (a .text .now) (l .loop .stack) (l .loop .at) (l .loop .i) (omega arith) (omega arith)
-          (sym (b .behind .ensures) ∙ new-refused (b .behind .result) (c .before .before .if2 .left)) (sym (c .before .may-pass .ensures) ∙ not-false _ (c .if3 .left)))
+          (sym (b .behind .ensures) ∙ new-refused (b .behind .result) (c .before .before .if2 .left)) (sym (c .before .may-pass .ensures) ∙ not-false _ (c .if4 .left)))
           ∙ l .loop .inv .4,
     )
 
@@ -122,16 +142,16 @@ returns-3 : tie.Need-returns-3 Inv-loop μ-loop
 returns-3 c = let l = c .before .before .before .before in
     let a = l .before .before .args in
     sym (place-end (a .text .now) (l .loop .stack) (l .loop .at) (l .loop .i) (omega arith)
-    ∙ ap (λ t. endPlace t (l .loop .i)) (sym (c .before .may-end .ensures) ∙ c .if4 .taken)) ∙ l .loop .inv .4
+    ∙ ap (λ t. endPlace t (l .loop .i)) (sym (c .before .may-end .ensures) ∙ c .if5 .taken)) ∙ l .loop .inv .4
 
-cast-t30 : tie.Need-cast-t30 Inv-loop μ-loop
-cast-t30 c = search needs
+cast-t29 : tie.Need-cast-t29 Inv-loop μ-loop
+cast-t29 c = search needs
 
 returns-4 : tie.Need-returns-4 Inv-loop μ-loop
 returns-4 c = let l = c .before .before .before .before in
     let a = l .before .before .args in
     sym (place-end (a .text .now) (l .loop .stack) (l .loop .at) (l .loop .i) (omega arith)
-    ∙ ap (λ t. endPlace t (l .loop .i)) (sym (c .before .may-end .ensures) ∙ c .if4 .left)) ∙ l .loop .inv .4
+    ∙ ap (λ t. endPlace t (l .loop .i)) (sym (c .before .may-end .ensures) ∙ c .if5 .left)) ∙ l .loop .inv .4
 
 pub check-spec : {M : Type 1} → statement M
 check-spec =
@@ -142,27 +162,29 @@ check-spec =
     sub-at
     array-write-stack
     loop-holds
-    cast-t11
+    cast-t12
     returns
     array-read-want
     shared-slice-read-behind
     behind-requires
-    array-read-if2
+    add-i
     sub-at-2
     slice-aggregate-copy-at
     slice-aggregate-copy-at-2
     copy-at-requires
-    add-i
+    add-at
     loop-less
     loop-again
-    may-pass-requires
-    cast-t26
-    returns-2
-    add-at
     loop-less-2
     loop-again-2
+    may-pass-requires
+    cast-t25
+    returns-2
+    add-at-2
+    loop-less-3
+    loop-again-3
     slice-aggregate-may-end
     may-end-requires
     returns-3
-    cast-t30
+    cast-t29
     returns-4)

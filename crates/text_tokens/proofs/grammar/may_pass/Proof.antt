@@ -12,10 +12,7 @@ returns-2 : tie.Need-returns-2
 returns-2 c = rw (c .match .keys2)
 
 returns-3 : tie.Need-returns-3
-returns-3 c = rw (c .match .keys3)
-
-returns-4 : tie.Need-returns-4
-returns-4 c = let r = c .match .rest in sym (needed _ (r .0 .0 .1) (r .0 .1) (r .1))
+returns-3 c = let r = c .match .rest in sym (needed _ (r .0 .1) (r .1))
 
 pub may-pass-spec : {M : Type 1} → statement M
-may-pass-spec = tie.close (tie.spec returns returns-2 returns-3 returns-4)
+may-pass-spec = tie.close (tie.spec returns returns-2 returns-3)
