@@ -1,8 +1,8 @@
 // What programs in C and Rust link: reading a pattern, judging a model, judging a tableau, putting an
-// older model file in order and typing a pattern, over byte slices. Each answers one number, a packed finding. Packing loses
-// nothing: taken apart, the answer tells the finding (each function's clause `finding`), and of what it
-// tells the promise holds (`promise`). How much area a model wants is asked beside them, and answered as
-// it is.
+// older model file in order and typing a pattern, over byte slices. Each answers one number, a packed
+// finding. Packing loses nothing: taken apart, the answer tells the finding (each function's clause
+// `finding`), and of what it tells the promise holds (`promise`). How much area a model wants is asked
+// beside them, and answered as it is.
 use crate::judge_model;
 use crate::judge_tableau;
 use answers::model_answer;

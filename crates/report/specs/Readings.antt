@@ -291,8 +291,9 @@ Job6 =
 -- change. Turned away: 30, first, text over 1,024 bytes (place 0) or outside the grammar ..; 31, next, the first number out of range, place its
 -- first digit; 32, last, over 255 different entries or a destination too short." G typed, with room for just its file and with one byte less;
 -- a test's node before the rest of its row, a step behind it; what follows a brace, for both of its paths, once; an empty brace; an equal
--- entry once. Each number at its limit, or one above it. A fault at the end, and 31 not before it; leading zeros; the empty text; a line
--- feed; Job 8's `^`; 255 entries and 256; 1,024 bytes that begin a text, and 1,025. What becomes of a destination of 12 bytes, and of one that is too short.
+-- entry once. Numbers at their limit, and one above it. A fault at the end, and 31 not before it; leading zeros; the empty text; a line feed;
+-- Job 8's `^`; 255 entries and 256; 1,024 bytes that begin a text, and 1,025. What becomes of a destination of 12 bytes, and of one that is
+-- too short.
 abbrev pub Types : String → ℕ → ℕ → List ℕ → Type 0
 Types words room n entries = typing.typingOf (text words) room ≡ found (patternFile n entries)
 
@@ -311,6 +312,9 @@ Job7 =
     × Types "(p31|!p31)" 1026 3 (1 ∷ 31 ∷ 0 ∷ 0 ∷ 3 ∷ 0 ∷ 0 ∷ 0 ∷ 12 ∷ 0 ∷ 1 ∷ 0 ∷ [])
     × TurnsAway "(n127&n128)" 31 7
     × TurnsAway "[@128#4/8]" 31 2
+    × TurnsAway "[#4/8]" 31 2
+    × TurnsAway "<8>p0" 31 1
+    × TurnsAway "[/7=0/8]" 31 6
     × TurnsAway "(p32&" 30 5
     × TurnsAway "p00" 30 2
     × TurnsAway "[=00]" 30 3
@@ -423,6 +427,9 @@ Job7-holds = (
   by-tree
       (NodeText.both (NodeText.name (Numeral.from 49 (50 ∷ 55 ∷ []) refl refl)) (NodeText.name (Numeral.from 49 (50 ∷ 56 ∷ []) refl refl))) _ 1026 _ refl refl refl,
   by-tree (NodeText.differ (RowText.jump (Numeral.from 49 (50 ∷ 56 ∷ []) refl refl) RowText.end) (digit 52 refl) (stepOn (digit 56 refl))) _ 1026 _ refl refl refl,
+  by-tree (NodeText.differ RowText.end (digit 52 refl) (stepOn (digit 56 refl))) _ 1026 _ refl refl refl,
+  by-tree (NodeText.after (digit 56 refl) (NodeText.property zero)) _ 1026 _ refl refl refl,
+  by-tree (NodeText.same (stepOn (digit 55 refl)) zero (stepOn (digit 56 refl))) _ 1026 _ refl refl refl,
   by-place _ 1026 5 refl refl,
   by-place _ 1026 2 refl refl,
   by-place _ 1026 3 refl refl,

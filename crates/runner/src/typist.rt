@@ -51,7 +51,7 @@ pub fn type_file(path: &[u8]) {
     type_text(&read[..n]);
 }
 
-// Types the text that standard input has, to its end.
+// Types the text that standard input has, up to the bytes that are read.
 pub fn type_input() {
     let mut read = [0u8; READ_BYTES];
     let n = io::read_full(STDIN_FILENO, &mut read);

@@ -29,14 +29,14 @@ madeBy letter value a b c =
     (pick (eqb letter 123) (path 3 11 (a / 2) (b / 2))
     (node 0 0 0 0 0))))))))))
 
--- what a letter that makes no cell puts on the stack: the mark of a node's kind, or of a comparison's and its channel; the end of path where a
--- row ends; at the bar and the end of a brace what follows it, once more for the path that ends there
 abbrev pub marks : ℕ → ℕ → ℕ → Marks
 marks puts under upper = record { puts = puts; under = under; upper = upper }
 
 abbrev pub barMark : ℕ → ℕ → ℕ
 barMark a b = pick (eqb (a % 2) 0) b 3072
 
+-- what a letter that makes no cell puts on the stack: the mark of a node's kind, or of a comparison's and its channel; the end of path where a
+-- row ends; at the bar and the end of a brace what follows it, once more for the path that ends there
 unfoldable pub marksBy : ℕ → ℕ → ℕ → ℕ → Marks
 marksBy letter value a b =
     pick (eqb letter 38) (marks 1 1024 0)
@@ -52,7 +52,7 @@ pub record State : Type 0 where
   pub cells : List ℕ
   pub items : List ℕ
 
--- field of cell c, and the item of a cell
+-- the field that refers to cell c
 abbrev pub partField : ℕ → ℕ
 partField c = 256 + c
 

@@ -87,6 +87,7 @@ fn bar_mark(a: u16, b: u16) -> u16
     12 * 256
 }
 
+// The marks of a letter that makes no cell, of its number and of the two items on top of the stack.
 pub fn marks_by(letter: u8, value: u16, a: u16, b: u16) -> Marks
     requires { ⌜ value < 256 ⌝ }
     ensures { λ r. ⌜ r ≡ marksBy letter value a b ⌝ }

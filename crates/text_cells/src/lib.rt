@@ -45,8 +45,8 @@ fn store(cells: &mut [u16; CELLS], count: u16, kind: u16, x: u16, y: u16, z: u16
     cells[at + 3] = z;
 }
 
-// One token.
-fn take(
+// What a token does: its cell is stored behind those that are there, or its marks are put on the stack.
+fn take_token(
     word: u16,
     cells: &mut [u16; CELLS],
     count: u16,
@@ -89,7 +89,7 @@ pub fn build(tokens: &[u16; TOKENS], n: u16, cells: &mut [u16; CELLS]) -> u16
     let mut i = n as usize;
     while 0 < i {
         i -= 1;
-        let built = take(tokens[i], cells, count, &mut items, at);
+        let built = take_token(tokens[i], cells, count, &mut items, at);
         at = built.at;
         count = built.count;
     }

@@ -15,7 +15,7 @@ ghost use Rattle.text_cells.specs.Cells.{CellIs};
 ghost use Rattle.text_entries.specs.Completing.{numberOf, fieldsOf, countAfter, countedAs};
 
 // The most entries, and their bytes.
-pub const ENTRIES: u16 = 255;
+const ENTRIES: u16 = 255;
 
 pub const ENTRY_BYTES: usize = 4 * ENTRIES as usize;
 
@@ -31,7 +31,7 @@ pub enum Entries {
     TooMany,
 }
 
-// What is kept of a cell.
+// A kept byte as a wider number, still below 256.
 fn wide(kept: u8) -> u16
     ensures { λ r. ⌜ (r ≡ kept) × (r < 256) ⌝ }
 {
@@ -54,6 +54,7 @@ fn number_of(numbers: &[u8; TOKENS], field: u16) -> u16
     kept - 1
 }
 
+// The fields of a cell, in their order.
 fn fields_of(cells: &[u16; CELLS], numbers: &[u8; TOKENS], cell: u16) -> Fields
     requires { ⌜ cell < 1024 ⌝ }
     requires { ⌜ ((t : Tree) × CellIs (now cells) cell t) ⌝ }

@@ -19,7 +19,7 @@ abbrev pub wants : List ℕ → List Want
 wants [] = []
 wants (w ∷ ws) = wantOf w ∷ wants ws
 
--- new wants as bytes, those from a place on: 6 is the place where there are none, since a byte can't be taken
+-- new wants as bytes, those from a place on, none from 5; 6 says that the byte can't be taken
 abbrev pub newWants : Wants → Next
 newWants new = pick (ltb (new .0) 6) (some (wants (drop (new .0) (new .1)))) none
 

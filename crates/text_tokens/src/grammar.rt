@@ -33,7 +33,7 @@ const SAME_DIFFER: u8 = 6;
 // so that it is always five that are stored.
 struct Wants(usize, [u8; 5]);
 
-// That place where a byte can't be taken: there are no new wants.
+// In its place where a byte can't be taken; 5 is that of a byte which is taken and asks for nothing.
 const REFUSED: usize = 6;
 
 // Room for the first want and, since a byte leaves at most four more than there were, for 1,024 bytes.

@@ -45,8 +45,8 @@ abbrev pub parsedWithin : {xs : List ℕ} → Parsed xs → ℕ → Finding (Lis
 parsedWithin (whole t e) room = textWithin t room
 parsedWithin (faulty k f) room = refused 30 k
 
--- "30, first, text over 1,024 bytes (place 0)". What `parse` answers is settled by its type: the tree whose bytes these are, or the place that
--- the words say, of which there is one (`fault-once`)
+-- "30, first, text over 1,024 bytes (place 0)". What `parse` answers is settled by its type: a tree whose bytes these are, and whatever tree has
+-- them, the finding is the same (`typing-text`); or the place that the words say, of which there is one (`fault-once`)
 unfoldable pub typingOf : List ℕ → ℕ → Finding (List ℕ)
 typingOf xs room = onward (refusesIf (ltb maxText (length xs)) 30 0) (parsedWithin (parse xs) room)
 

@@ -23,7 +23,7 @@ ghost use Rattle.typing.specs.Typing.{fileWithin, textWithin, findingOf,
 ghost use Rattle.typing.specs.Written.{bytesWithin, TokensOf};
 
 // The most bytes of a text.
-pub const TEXT_BYTES: usize = TOKENS;
+const TEXT_BYTES: usize = TOKENS;
 
 // Refusal 32 by the destination's length, or the file of n entries.
 fn write_file(entries: &[u8], n: u8, out: &mut [u8]) -> TypeFinding

@@ -18,14 +18,14 @@ loop-holds c = going-start (c .args .tokens .now) (c .args .cells .now) (c .args
 sub-i : tie.Need-sub-i Inv-loop μ-loop
 sub-i c = search needs
 
-mul-take : tie.Need-mul-take Inv-loop μ-loop
-mul-take c = omega (arith, c .before .loop .inv .left, c .before .before .pre)
+mul-take-token : tie.Need-mul-take-token Inv-loop μ-loop
+mul-take-token c = omega (arith, c .before .loop .inv .left, c .before .before .pre)
 
-element-copy-out-take : tie.Need-element-copy-out-take Inv-loop μ-loop
-element-copy-out-take c = omega (arith, c .before .loop .inv .left, c .before .before .pre, c .loop-test .taken)
+element-copy-out-take-token : tie.Need-element-copy-out-take-token Inv-loop μ-loop
+element-copy-out-take-token c = omega (arith, c .before .loop .inv .left, c .before .before .pre, c .loop-test .taken)
 
-take-requires : tie.Need-take-requires Inv-loop μ-loop
-take-requires c κs =
+take-token-requires : tie.Need-take-token-requires Inv-loop μ-loop
+take-token-requires c κs =
     let l = c .before .before .before .before .loop in
     let some = c .before .before .before .loop-test .taken in
     (l .inv .long, omega (arith, l .inv .low, some), omega (arith, l .inv .high, some), omega (arith, l .inv .few, some))
@@ -38,7 +38,7 @@ loop-again c =
     let l = c .before .before .before .before .before .loop in
     let s = c .before .before .before .before .before .before in
     going-on (s .args .tokens .now) (s .args .cells .now) (s .args .n) (s .pre .2) (s .pre .1) (s .pre .0) (l .cells) (l .items) _ _ (l .at) (l .count) _ _ (l .i)
-    (c .before .before .before .before .loop-test .taken) (l .inv) (c .take .ensures)
+    (c .before .before .before .before .loop-test .taken) (l .inv) (c .take-token .ensures)
 
 returns : tie.Need-returns Inv-loop μ-loop
 returns c =
@@ -55,9 +55,9 @@ build-spec =
     μ-loop
     loop-holds
     sub-i
-    mul-take
-    element-copy-out-take
-    take-requires
+    mul-take-token
+    element-copy-out-take-token
+    take-token-requires
     loop-less
     loop-again
     returns)

@@ -1,10 +1,10 @@
--- `text_cells::take` meets its contract: `marks-took` and `cell-took`.
+-- `text_cells::take_token` meets its contract: `marks-took` and `cell-took`.
 -- Assumes nothing.
 use borrow.Author.Needs.{needs}
 use native.Mathlib.Omega.{arith}
 use Rattle.text_cells.specs.Held.{taken-few-of, put-few-of, marks-took, cell-took}
-use Rattle.text_cells.proofs.take.Statement.{statement}
-use Rattle.text_cells.proofs.take.Tie as tie
+use Rattle.text_cells.proofs.take_token.Statement.{statement}
+use Rattle.text_cells.proofs.take_token.Tie as tie
 
 cast-letter : tie.Need-cast-letter
 cast-letter c = search needs
@@ -125,8 +125,8 @@ returns-2 c =
     (cell-took (l .args .word) (l .args .count) (l .args .cells .now) (l .args .items .now) (l .args .at) (l .pre .1) (omega (arith, l .pre))
     (c .before .before .before .before .before .before .made-by .result) (c .before .before .before .before .before .before .made-by .ensures) (c .before .before .before .before .if1 .left) (l .pre .3))
 
-pub take-spec : {M : Type 1} → statement M
-take-spec =
+pub take-token-spec : {M : Type 1} → statement M
+take-token-spec =
     tie.close
     (tie.spec
     cast-letter
