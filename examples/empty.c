@@ -1,5 +1,5 @@
-/* Judges nothing at all from C, puts nothing in order and reads nothing typed: a pointer may be NULL where its length is
- * 0, and no bytes are no pattern, no model and no text. */
+/* Judges nothing at all from C, puts nothing in order and reads nothing typed: a pointer may be NULL where its
+ * length is 0, and no bytes are no pattern, no model and no text. */
 #include "riser.h"
 
 #include <stdio.h>

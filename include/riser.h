@@ -6,7 +6,7 @@
  * the text. Nothing outside the given lengths is read or written.
  *
  * Stack that was enough on the deepest inputs: 2.5 KB for reading and for riser_model_area, 60 KB for judging
- * a model, 16 KB for judging a tableau, 4.5 KB for putting a model in order, 32 KB for a typed pattern. 64 KB
+ * a model, 16 KB for judging a tableau, 4.5 KB for putting a model in order, 22 KB for a typed pattern. 64 KB
  * are enough for all. */
 #ifndef RISER_H
 #define RISER_H

@@ -365,7 +365,7 @@ fn a_shared_formula_is_written_once() {
     let text = explain(&pattern(&entries), &model_g());
     assert!(text.contains("  e254 := (e253&e253)\n"));
     assert!(text.contains("  e254 (the root) (e253&e253): nowhere\n"));
-    assert!(text.contains("\nToo long to type: its text has over 1024 bytes.\n"));
+    assert!(text.contains("\nToo long to type: its text has over 1,024 bytes.\n"));
     assert!(text.len() < 20_000);
 }
 

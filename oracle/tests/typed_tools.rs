@@ -77,8 +77,8 @@ fn plan_takes_a_text_from_anywhere() {
 fn plan_says_where_a_text_is_refused_and_writes_nothing() {
     let directory = Directory::new("typed-refused");
     let proposal = directory.file("proposal.bin", b"old");
-    let message = "plan: the text: refused 30 5, byte 5: no typed pattern has that there, or the text has over \
-                   1024 bytes\nWanted there: p n ! ( < or [.\n  (p32&\n       ^";
+    let message = "plan: the text: refused 30 5, byte 5: no typed pattern has that there\n\
+                   Wanted there: p n ! ( < or [.\n  (p32&\n       ^";
     let output = run(PLAN, &[OsStr::new("-e"), OsStr::new("(p32&"), proposal.as_ref()]);
     check_failure(&output, 1, message);
     let file = directory.file("pattern.txt", b"[=9]\n");
@@ -126,8 +126,7 @@ fn long_texts() {
         let output = run(EXPLAIN, &[OsStr::new("--text"), file, proposal.as_ref()]);
         printed(&output.stdout)
     };
-    let refused = "Finding: refused 30 0, byte 0: no typed pattern has that there, or the text has over 1024 \
-                   bytes.\nThe text is too long: up to 1024 bytes can be typed.\n";
+    let refused = "Finding: refused 30 0: the text has over 1,024 bytes.\n";
     assert_eq!(explained(OsStr::new("/dev/zero")), refused);
     let nots = |length: usize, ending: &str| format!("{}{ending}", "!".repeat(length)).into_bytes();
     for (text, said) in [

@@ -81,7 +81,7 @@ fn takes_a_text_from_a_file_or_standard_input() {
 
 /// Texts that are refused, and what is said of each.
 fn refused() -> [(String, String); 5] {
-    let outside = "no typed pattern has that there, or the text has over 1024 bytes";
+    let outside = "no typed pattern has that there";
     [
         ("(p32&", format!("30 5, byte 5: {outside}\nWanted there: p n ! ( < or [.\n  (p32&\n       ^")),
         ("p0\n", format!("30 2, byte 2: {outside}\nWanted there: the end.\n  p0\\n\n    ^")),
@@ -91,10 +91,7 @@ fn refused() -> [(String, String); 5] {
              The last property is 31, the last name 127, axis 7, channel 3.\n  <8>p0\n   ^"
                 .to_string(),
         ),
-        (
-            &"!".repeat(1025),
-            format!("30 0, byte 0: {outside}\nThe text is too long: up to 1024 bytes can be typed."),
-        ),
+        (&"!".repeat(1025), "30 0: the text has over 1,024 bytes".to_string()),
         (
             &format!("{}p0", "!".repeat(255)),
             "32 0: the text makes over 255 different entries, or the destination is shorter than the pattern \
@@ -131,7 +128,7 @@ fn a_refused_text_in_a_file_is_named() {
     let output = run_fed(TYPE, &[OsStr::new("--text"), OsStr::new("-")], b"");
     assert!(printed(&output.stderr).starts_with("type: standard input: refused 30 0, byte 0: "));
     let output = run(&["--text", "/dev/zero"]);
-    assert!(printed(&output.stderr).starts_with("type: /dev/zero: refused 30 0, byte 0: "));
+    assert!(printed(&output.stderr).starts_with("type: /dev/zero: refused 30 0: the text has over "));
     assert_eq!(output.status.code(), Some(1));
 }
 

@@ -182,8 +182,8 @@ fn a_typist_that_prints_something_else_fails() {
     let output = run(PROGRAMS, &["--typist", OTHER]);
     assert_eq!(output.status.code(), Some(1));
     let said = text(&output.stdout);
-    assert!(said.starts_with("programs: 300 texts generated, 278 odd ones, 7 in pieces\n"), "{said}");
-    assert!(said.ends_with("programs: 585 texts, 585 typed otherwise than expected\n"), "{said}");
+    assert!(said.starts_with("programs: 600 texts generated, 279 odd ones, 7 in pieces, 1 "), "{said}");
+    assert!(said.ends_with("programs: 887 texts, 887 typed otherwise than expected\n"), "{said}");
     assert!(text(&output.stderr).contains("programs: no text: "));
     let missing = run(PROGRAMS, &["--typist", "no/such/program"]);
     assert!(text(&missing.stderr).starts_with("programs: no/such/program: "));

@@ -9,7 +9,8 @@
 //! ```
 //!
 //! Stack that was enough on the deepest inputs: 2.5 KB for reading and for `model_area`, 60 KB for judging a model,
-//! 16 KB for judging a tableau, 4.5 KB for putting a model in order, 32 KB for a typed pattern. 64 KB are enough for all.
+//! 16 KB for judging a tableau, 4.5 KB for putting a model in order, 22 KB for a typed pattern. 64 KB are enough for
+//! all.
 
 use std::fmt;
 

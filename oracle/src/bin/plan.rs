@@ -2,7 +2,6 @@
 //! pattern, and writes it as a proposal.
 
 use std::ffi::OsString;
-use std::io;
 use std::path::PathBuf;
 use std::process::ExitCode;
 
@@ -66,11 +65,7 @@ fn run(arguments: &Arguments) -> Result<bool, String> {
     let unwritable = |error| format!("{}: can't be written: {error}", proposal.display());
     let pattern = read_pattern(given)?;
     let target = target::find(proposal).map_err(unwritable)?;
-    if let Some(file) = given.file()
-        && target.is(file).map_err(unwritable)?
-    {
-        return Err(unwritable(io::Error::other("it is the pattern")));
-    }
+    target.is_not(given.file(), "the pattern").map_err(unwritable)?;
     target.allows().map_err(unwritable)?;
     let Some(plan) = plan(&pattern, *effort) else {
         return Err(format!("{}: nothing found within a budget of {}", given.name(), effort.budget));

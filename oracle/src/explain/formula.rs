@@ -8,6 +8,7 @@
 use super::wording::count;
 use crate::model::area;
 use crate::pattern::{Entry, LONGEST, Path, Pattern};
+use crate::tool::counted;
 use crate::typed::{MAX_TEXT, sign, spell, type_pattern};
 use std::fmt;
 
@@ -100,7 +101,7 @@ impl<'a> Formula<'a> {
     /// How the pattern is typed, and whether that gives another file.
     fn typed(&self) -> String {
         let Some(text) = spell(self.pattern) else {
-            return format!("Too long to type: its text has over {MAX_TEXT} bytes.");
+            return format!("Too long to type: its text has over {}.", counted(MAX_TEXT, "byte"));
         };
         let file = type_pattern(text.as_bytes(), LONGEST);
         if file == Ok(self.pattern.to_bytes()) {

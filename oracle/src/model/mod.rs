@@ -96,11 +96,15 @@ pub fn check_names(pattern: &Pattern, model: &Model) -> Result<(), Refusal> {
 /// Met or unmet, of a model that lists the pattern's names: the lowest node where the root holds, and the number
 /// of such nodes.
 pub fn finding(pattern: &Pattern, model: &Model) -> Finding {
-    let root = *node_sets(pattern, model).last().expect("a pattern has a root");
-    if root == 0 {
+    found(*node_sets(pattern, model).last().expect("a pattern has a root"))
+}
+
+/// The finding of a root that holds at these nodes.
+pub fn found(nodes: NodeSet) -> Finding {
+    if nodes == 0 {
         return Finding::Unmet;
     }
-    Finding::Met { lowest: root.trailing_zeros() as u16, number: root.count_ones() as u16 }
+    Finding::Met { lowest: nodes.trailing_zeros() as u16, number: nodes.count_ones() as u16 }
 }
 
 impl Model {

@@ -35,6 +35,14 @@ impl Target {
         Ok((one.dev(), one.ino()) == (other.dev(), other.ino()))
     }
 
+    /// Refuses the file that the source is read from, if it is read from one; `what` names it.
+    pub fn is_not(&self, source: Option<&Path>, what: &str) -> io::Result<()> {
+        match source {
+            Some(source) if self.is(source)? => Err(io::Error::other(format!("it is {what}"))),
+            _ => Ok(()),
+        }
+    }
+
     /// Refuses a file that may not be written.
     pub fn allows(&self) -> io::Result<()> {
         if let Target::Taken(taken) = self {

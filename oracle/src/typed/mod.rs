@@ -1,10 +1,12 @@
 //! Typing a pattern: document 02's Job 7. `parse` reads a text as a tree, `entries` makes the entries of the tree, and
-//! `spell` goes the other way, from a pattern to its text.
+//! `spell` goes the other way, from a pattern to its text. `composed` says where a tree holds, without entries.
 
+mod composed;
 mod entries;
 mod parse;
 mod spell;
 
+pub use composed::holds;
 pub use entries::entries_of;
 pub use parse::{Fault, parse};
 pub use spell::{sign, spell};

@@ -68,11 +68,7 @@ fn write(Asked { text, file, over }: &Asked) -> Result<bool, String> {
     let unwritable = |error: io::Error| format!("{}: can't be written: {error}", file.display());
     let pattern = typed(&text.read()?).map_err(|words| format!("{}: {words}", text.name()))?;
     let target = target::find(file).map_err(unwritable)?;
-    if let Some(source) = text.file()
-        && target.is(source).map_err(unwritable)?
-    {
-        return Err(unwritable(io::Error::other("it is the text")));
-    }
+    target.is_not(text.file(), "the text").map_err(unwritable)?;
     if !over && let Target::Taken(_) = target {
         return Err(format!("{}: it is there already; --over replaces it", file.display()));
     }

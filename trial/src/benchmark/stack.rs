@@ -80,7 +80,7 @@ mod tests {
             Proposal::Model(_) => 61_440,
             Proposal::Tableau(_) => 16_384,
             Proposal::Old(_) => 4608,
-            Proposal::Text(_) => 32_768,
+            Proposal::Text(_) => 22_528,
         }
     }
 

@@ -1,15 +1,8 @@
-//! What a typed pattern says of a model by its text alone: a row of a path is the composition of its parts, whatever
-//! entries a file of it would have.
+//! What a typed pattern says of a model by its text alone, whatever entries a file of it would have.
 
 use oracle::finding::{Finding, Refusal};
-use oracle::model::{self, Model};
-use oracle::pattern::Comparison;
-use oracle::typed::{self, NodeText, PartText};
-
-/// A set of nodes: bit u for node u.
-type Set = u64;
-/// Where a path leads: for each node the set of its ends.
-type Relation = Vec<Set>;
+use oracle::model;
+use oracle::typed;
 
 /// Judges a model of a typed pattern. What is refused goes by the file, what is found by the text.
 pub fn judge(text: &[u8], model: &[u8], area: &mut [u8]) -> Finding {
@@ -19,90 +12,10 @@ pub fn judge(text: &[u8], model: &[u8], area: &mut [u8]) -> Finding {
 fn judged(text: &[u8], model: &[u8], area: &mut [u8]) -> Result<Finding, Refusal> {
     let file = typed::type_pattern(text, usize::MAX)?;
     match model::judge(&file, model, area) {
-        Finding::Met { .. } | Finding::Unmet => Ok(found(holds(&typed::parse(text)?, &model::parse(model)?))),
+        Finding::Met { .. } | Finding::Unmet => {
+            let nodes = typed::holds(&typed::parse(text)?, &model::parse(model)?);
+            Ok(model::found(nodes))
+        }
         refused => Ok(refused),
     }
-}
-
-fn found(nodes: Set) -> Finding {
-    match nodes {
-        0 => Finding::Unmet,
-        _ => Finding::Met { lowest: nodes.trailing_zeros() as u16, number: nodes.count_ones() as u16 },
-    }
-}
-
-/// The nodes for which the question is answered yes.
-fn where_is(model: &Model, question: impl Fn(usize) -> bool) -> Set {
-    (0..model.nodes.len()).filter(|&node| question(node)).fold(0, |set, node| set | 1 << node)
-}
-
-/// Where a node text holds.
-fn holds(text: &NodeText, model: &Model) -> Set {
-    let all = where_is(model, |_| true);
-    match text {
-        NodeText::Property(property) => {
-            where_is(model, |node| model.nodes[node].properties >> property & 1 == 1)
-        }
-        NodeText::Name(name) => 1 << model.node_of(*name),
-        NodeText::Not(phi) => all & !holds(phi, model),
-        NodeText::Both(phi, psi) => holds(phi, model) & holds(psi, model),
-        NodeText::Either(phi, psi) => holds(phi, model) | holds(psi, model),
-        NodeText::After(axis, phi) => {
-            let (axis, phi) = (steps(*axis, model), holds(phi, model));
-            where_is(model, |node| axis[node] & phi != 0)
-        }
-        NodeText::Compare(comparison, channel, left, right) => {
-            let (left, right) = (leads(left, model), leads(right, model));
-            let value = |node: usize| model.nodes[node].values[usize::from(*channel)];
-            let compare = |(one, other): (usize, usize)| match comparison {
-                Comparison::Same => value(one) == value(other),
-                Comparison::Differ => value(one) != value(other),
-            };
-            let ends = |set: Set| (0..model.nodes.len()).filter(move |node| set >> node & 1 == 1);
-            where_is(model, |node| {
-                let mut pairs =
-                    ends(left[node]).flat_map(|one| ends(right[node]).map(move |other| (one, other)));
-                pairs.any(compare)
-            })
-        }
-    }
-}
-
-/// Where a row leads: its parts composed, and from each node to itself if it has none.
-fn leads(row: &[PartText], model: &Model) -> Relation {
-    let itself = (0..model.nodes.len()).map(|node| 1 << node).collect();
-    row.iter().fold(itself, |before, part| composed(&before, &part_leads(part, model)))
-}
-
-fn part_leads(part: &PartText, model: &Model) -> Relation {
-    let nodes = 0..model.nodes.len();
-    match part {
-        PartText::Step(axis) => steps(*axis, model),
-        PartText::Jump(name) => nodes.map(|_| 1 << model.node_of(*name)).collect(),
-        PartText::Test(phi) => {
-            let phi = holds(phi, model);
-            nodes.map(|node| phi & 1 << node).collect()
-        }
-        PartText::Brace(left, right) => {
-            let (left, right) = (leads(left, model), leads(right, model));
-            left.into_iter().zip(right).map(|(left, right)| left | right).collect()
-        }
-    }
-}
-
-fn steps(axis: u8, model: &Model) -> Relation {
-    let mut steps = vec![0; model.nodes.len()];
-    for edge in model.edges.iter().filter(|edge| edge.1 == axis) {
-        steps[usize::from(edge.0)] |= 1 << edge.2;
-    }
-    steps
-}
-
-/// To wherever the second leads from where the first does.
-fn composed(first: &Relation, second: &Relation) -> Relation {
-    let from = |ends: &Set| {
-        let led = second.iter().enumerate().filter(|(node, _)| ends >> node & 1 == 1);
-        led.fold(0, |set, (_, ends)| set | ends)
-    };
-    first.iter().map(from).collect()
 }

@@ -20,8 +20,9 @@ use unit::PATTERN_LONGEST;
 const GENERATED: usize = 300;
 const SEED: u64 = 1;
 
-/// The file that the program writes.
+/// The file that the program writes, and the one that it writes beside it and renames.
 const FILE: &str = "pattern.bin";
+const PART: &str = "pattern.bin.new";
 
 /// Between two pieces of a text.
 const PAUSE: Duration = Duration::from_millis(20);
@@ -33,27 +34,31 @@ struct Typed {
     at_once: usize,
 }
 
-/// Runs every text, with a file there before and without, and prints how many there were; whether all came out as
-/// expected.
+/// Runs every text, with a file there before and without, and one where a folder stands in the file's place, and prints
+/// how many there were; whether all came out as expected.
 pub fn run(program: &Path) -> Result<bool, String> {
     let program = program.canonicalize().map_err(|error| naming(program, error))?;
     let texts = [generated(), odd(), in_pieces()];
     let [generated, odd, pieces] = texts.each_ref().map(Vec::len);
-    tool::print(format!("programs: {generated} texts generated, {odd} odd ones, {pieces} in pieces\n"))?;
+    tool::print(format!(
+        "programs: {generated} texts generated, {odd} odd ones, {pieces} in pieces, 1 that can't be written\n"
+    ))?;
     let folder = Folder::new()?;
-    let before = [None, Some(vec![7; 2 * PATTERN_LONGEST]), Some(Vec::new())];
-    let mut wrong = 0;
-    for (typed, before) in texts.iter().flatten().zip(before.iter().cycle()) {
-        let content = before.clone().map_or(Content::Missing, Content::Bytes);
-        folder.put(FILE, &content)?;
-        let expected = expected(&typed.text, before.as_deref());
+    let before = [Content::Missing, Content::Bytes(vec![7; 2 * PATTERN_LONGEST]), Content::Bytes(Vec::new())];
+    let unwritten = whole("a text that can't be written".to_string(), b"p0");
+    let cases = texts.iter().flatten().zip(before.iter().cycle()).chain([(&unwritten, &Content::Folder)]);
+    let (mut all, mut wrong) = (0, 0);
+    for (typed, before) in cases {
+        all += 1;
+        folder.put(FILE, before)?;
+        folder.put(PART, &Content::Missing)?;
+        let expected = expected(&typed.text, before);
         let found = found(&program, &folder, typed)?;
         if found != expected {
             wrong += 1;
             eprintln!("programs: {}: {found}, expected {expected}", typed.words);
         }
     }
-    let all = generated + odd + pieces;
     tool::print(format!("programs: {all} texts, {wrong} typed otherwise than expected\n"))?;
     Ok(wrong == 0)
 }
@@ -108,23 +113,33 @@ fn whole(words: String, text: &[u8]) -> Typed {
 
 /// What the program should print, and what should stand in the file's place then. One line feed at the end is no part
 /// of the text.
-fn expected(read: &[u8], before: Option<&[u8]>) -> String {
+fn expected(read: &[u8], before: &Content) -> String {
     let mut destination = [0; PATTERN_LONGEST];
     let finding = type_pattern(read.strip_suffix(b"\n").unwrap_or(read), &mut destination);
-    let after = match finding {
-        Finding::Written { length } => Some(&destination[..length.into()]),
-        _ => before,
+    let (line, after) = match (finding, before) {
+        (Finding::Written { .. }, Content::Folder) => ("not written".to_string(), before),
+        (Finding::Written { length }, _) => {
+            (finding.to_string(), &Content::Bytes(destination[..length.into()].to_vec()))
+        }
+        _ => (finding.to_string(), before),
     };
-    in_words(&outcome(format!("{finding}\n").as_bytes(), b"", Some(0)), after)
+    in_words(&outcome(format!("{line}\n").as_bytes(), b"", Some(0)), after)
 }
 
-/// What the program prints, its exit status, and what stands in the file's place then.
+/// What the program prints, its exit status, what stands in the file's place then, and whether its part is left.
 fn found(program: &Path, folder: &Folder, typed: &Typed) -> Result<String, String> {
     let output = output(program, folder, typed).map_err(|error| naming(program, error))?;
     let printed = outcome(&output.stdout, &output.stderr, output.status.code());
-    let file = folder.path.join(FILE);
-    let after = file.exists().then(|| folder.read(FILE, usize::MAX));
-    Ok(in_words(&printed, after.as_deref()))
+    let [file, part] = [FILE, PART].map(|name| folder.path.join(name));
+    let after = if file.is_dir() {
+        Content::Folder
+    } else if file.exists() {
+        Content::Bytes(folder.read(FILE, usize::MAX))
+    } else {
+        Content::Missing
+    };
+    let left = if part.exists() { ", its part left beside it" } else { "" };
+    Ok(in_words(&printed, &after) + left)
 }
 
 fn output(program: &Path, folder: &Folder, typed: &Typed) -> io::Result<Output> {
@@ -148,7 +163,11 @@ fn hand_over(child: &mut Child, typed: &Typed) -> io::Result<()> {
     written.or_else(|error| if error.kind() == ErrorKind::BrokenPipe { Ok(()) } else { Err(error) })
 }
 
-fn in_words(printed: &str, file: Option<&[u8]>) -> String {
-    let file = file.map_or("missing".to_string(), |bytes| bytes.escape_ascii().to_string());
+fn in_words(printed: &str, file: &Content) -> String {
+    let file = match file {
+        Content::Missing => "missing".to_string(),
+        Content::Folder => "a folder".to_string(),
+        Content::Bytes(bytes) | Content::Shut(bytes) => bytes.escape_ascii().to_string(),
+    };
     format!("{printed}, {FILE} {file}")
 }

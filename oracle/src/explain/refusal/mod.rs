@@ -32,7 +32,8 @@ pub fn refused(refusal: Refusal) -> String {
     format!("{}{where_at}: {}", Finding::Refused(refusal), MEANINGS[number as usize - 1])
 }
 
-/// By refusal number, from 1 to 32: what documents 01 and 02 say of it, and with 27 what may have happened.
+/// By refusal number, from 1 to 32: what documents 01 and 02 say of it, and with 27 what may have happened. Of 30, what
+/// they say of its places: `text` tells it from a text that is too long.
 const MEANINGS: [&str; 32] = [
     "the pattern file has under 6 bytes or doesn't begin with PAT",
     "the pattern file's version isn't 1",
@@ -63,7 +64,7 @@ const MEANINGS: [&str; 32] = [
     "the pattern uses it and the model doesn't list it (was its meter removed?)",
     "it doesn't come after the record before it (edges rise by from, then axis, then to, each once)",
     "the destination is shorter than the new file",
-    "no typed pattern has that there, or the text has over 1024 bytes",
+    "no typed pattern has that there",
     "the number is out of range",
     "the text makes over 255 different entries, or the destination is shorter than the pattern file",
 ];

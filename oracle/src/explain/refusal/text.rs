@@ -1,9 +1,10 @@
 //! What stands at the place of a refusal of a text: 30 to 32.
 
-use super::{refused, sentence};
+use super::refused;
 use crate::explain::wording::{count, joined};
-use crate::finding::Refusal;
+use crate::finding::{Finding, Refusal};
 use crate::pattern::{MAX_AXIS, MAX_CHANNEL, MAX_NAME, MAX_PROPERTY};
+use crate::tool::counted;
 use crate::typed::{Fault, MAX_TEXT, entries_of, parse};
 
 /// The longest text that is shown whole, and how much of a longer one is shown before and behind a place.
@@ -12,19 +13,24 @@ const BEFORE: usize = 40;
 const BEHIND: usize = 24;
 
 pub fn of_text(text: &[u8], refusal: Refusal) -> String {
-    sentence(refusal, &text_detail(text))
+    let (refused, detail) = told(text, refusal);
+    format!("Finding: {refused}.{detail}\n")
 }
 
 /// The refusal and what stands at its place, for a message.
 pub fn text_refused(text: &[u8], refusal: Refusal) -> String {
-    format!("{}\n{}", refused(refusal), text_detail(text))
+    let (refused, detail) = told(text, refusal);
+    refused + &detail
 }
 
-/// What was wanted at the place, and the text with a mark under it; of a refusal that has no place, which of its two
-/// causes it was.
-fn text_detail(text: &[u8]) -> String {
-    match parse(text) {
-        Err(Fault::Long) => format!("The text is too long: up to {MAX_TEXT} bytes can be typed."),
+/// The refusal, and in further lines what was wanted at its place, and the text with a mark under it; of 32, how many
+/// entries there are. A text that is too long needs no more than to be called so.
+fn told(text: &[u8], refusal: Refusal) -> (String, String) {
+    let detail = match parse(text) {
+        Err(Fault::Long) => {
+            let longest = counted(MAX_TEXT, "byte");
+            return (format!("{}: the text has over {longest}", Finding::Refused(refusal)), String::new());
+        }
         Err(Fault::Stray { place, wanted }) => {
             format!("Wanted there: {}.\n{}", wanted_words(&text[..place], wanted), marked(text, place))
         }
@@ -33,7 +39,8 @@ fn text_detail(text: &[u8]) -> String {
             marked(text, place)
         ),
         Ok(node) => format!("The text makes {}.", count(entries_of(&node).len(), "entry", "entries")),
-    }
+    };
+    (refused(refusal), format!("\n{detail}"))
 }
 
 /// What may follow the text so far: another digit, if a number other than 0 stands at its end, or what was asked for.

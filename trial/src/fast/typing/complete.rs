@@ -27,23 +27,7 @@ pub fn entries(items: &mut [Item]) -> Option<Entries> {
     let mut begun = Vec::with_capacity(items.len());
     let mut reference = 0;
     loop {
-        let mut number = loop {
-            if reference & REST_OF != 0 {
-                reference = items[usize::from(reference ^ REST_OF)].parts[2];
-            } else if reference == END {
-                break pattern::END;
-            } else {
-                let item = &items[reference as usize];
-                match item.kind {
-                    COMPLETE => break item.value,
-                    PROPERTY | NAME => break entries.number_of([item.kind, item.value, 0, 0])?,
-                    FORK => know_rest(items, reference),
-                    _ => {}
-                }
-                begun.push(Begun { item: reference, part: 0 });
-                reference = items[reference as usize].parts[0];
-            }
-        };
+        let mut number = first_number(items, reference, &mut begun, &mut entries)?;
         reference = loop {
             let Some(Begun { item, part }) = begun.last_mut() else { return Some(entries) };
             let item = &mut items[*item as usize];
@@ -56,6 +40,33 @@ pub fn entries(items: &mut [Item]) -> Option<Entries> {
             (item.kind, item.value) = (COMPLETE, number);
             begun.pop();
         };
+    }
+}
+
+/// Begins the item that is referred to, its first part and so on, as far as one whose number is known or found at once,
+/// which it gives.
+fn first_number(
+    items: &mut [Item],
+    mut reference: u16,
+    begun: &mut Vec<Begun>,
+    entries: &mut Entries,
+) -> Option<u8> {
+    loop {
+        if reference & REST_OF != 0 {
+            reference = items[usize::from(reference ^ REST_OF)].parts[2];
+        } else if reference == END {
+            return Some(pattern::END);
+        } else {
+            let item = &items[reference as usize];
+            match item.kind {
+                COMPLETE => return Some(item.value),
+                PROPERTY | NAME => return entries.number_of([item.kind, item.value, 0, 0]),
+                FORK => know_rest(items, reference),
+                _ => {}
+            }
+            begun.push(Begun { item: reference, part: 0 });
+            reference = items[reference as usize].parts[0];
+        }
     }
 }
 

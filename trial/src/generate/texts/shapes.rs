@@ -44,14 +44,14 @@ fn tests_in_a_row(random: &mut Random, times: usize) -> String {
     format!("[{row}={}/1]", random.below(4))
 }
 
-/// All 128 names, each once or in a jump: 255 entries, or one more.
+/// All 128 names, each once: 255 entries, or one more; or each in a jump: 129 entries.
 fn all_names(random: &mut Random) -> String {
     let one_more = if random.once_in(2) { "!" } else { "" };
-    let names: Vec<String> = (0..127).map(|name| format!("(n{name}|")).collect();
     if random.once_in(4) {
         let jumps: Vec<String> = (0..128).map(|name| format!("@{name}")).collect();
         return format!("[{}=0]", jumps.concat());
     }
+    let names: Vec<String> = (0..127).map(|name| format!("(n{name}|")).collect();
     format!("{one_more}{}n127{}", names.concat(), ")".repeat(127))
 }
 
