@@ -88,7 +88,7 @@ pub fn without_line_feed(read: &[u8]) -> &[u8]
         return read;
     }
     let last = read.len() - 1;
-    if read[last] == 10 {
+    if read[last] == b'\n' {
         return &read[..last];
     }
     read

@@ -28,10 +28,10 @@ struct Number {
 fn is_digit(byte: u8) -> bool
     ensures { λ r. ⌜ r ≡ isDigit byte ⌝ }
 {
-    if byte < 48 {
+    if byte < b'0' {
         return false;
     }
-    byte <= 57
+    byte <= b'9'
 }
 
 // Whether a number belongs to the letter.
@@ -55,7 +55,7 @@ fn grown(value: u8, digit: u8) -> u8
     requires { ⌜ isDigit digit ≡ true ⌝ }
     ensures { λ r. ⌜ r ≡ capped (value * 10 + (digit - 48)) ⌝ }
 {
-    let larger = (value as u16) * 10 + ((digit - 48) as u16);
+    let larger = (value as u16) * 10 + ((digit - b'0') as u16);
     if larger < 255 {
         return larger as u8;
     }

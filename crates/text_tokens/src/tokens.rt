@@ -2,6 +2,10 @@
 use crate::reader::token_from;
 use crate::token::NextToken;
 use crate::token::Token;
+use pattern::types::Axis;
+use pattern::types::Channel;
+use pattern::types::Name;
+use pattern::types::Property;
 ghost use mathlib.Core.Path.{_≡_};
 ghost use Prim.Native.Nat.{_+_, _*_, _≤_, _<_};
 ghost use lib.ListN.{length};
@@ -23,13 +27,13 @@ fn limit(letter: u8) -> u8
     ensures { λ r. ⌜ r ≡ limitOf letter ⌝ }
 {
     match letter {
-        b'p' => 31,
-        b'n' => 127,
-        b'@' => 127,
-        b'<' => 7,
-        b'/' => 7,
-        b'=' => 3,
-        b'#' => 3,
+        b'p' => Property::MAX,
+        b'n' => Name::MAX,
+        b'@' => Name::MAX,
+        b'<' => Axis::MAX,
+        b'/' => Axis::MAX,
+        b'=' => Channel::MAX,
+        b'#' => Channel::MAX,
         _ => 0,
     }
 }
