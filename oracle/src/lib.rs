@@ -9,5 +9,4 @@ pub mod pattern;
 pub mod planner;
 pub mod random;
 pub mod tableau;
-pub mod tool;
 pub mod typed;

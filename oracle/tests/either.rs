@@ -49,12 +49,12 @@ fn either_is_explained() {
     let entries = [[1, 0, 0, 0], [1, 1, 0, 0], [12, 0, 1, 0], [12, 1, 0, 0], [3, 3, 0, 0], [4, 2, 4, 0]];
     let begin = [(2, 0, 0, 0), (1, 2, 0, 0), (25, 3, 0, 0)];
     let end = [(24, 1, 0, 0), (21, 6, 5, 0), (21, 4, 6, 0)];
-    let text = explain(&pattern(&entries), &tableau(9, &[begin, end].concat()));
+    let text = explain(&pattern(&entries), &tableau(9, &[begin, end].concat())).to_string();
     assert!(text.contains(EXPLAINED), "{text}");
 
     let two_nodes = model(&[(1, [0; 4]), (2, [0; 4])], &[], &[]);
     let holding = "  e2 (p0|p1): every node\n  e3 (p1|p0): every node\n  e4 !(p1|p0): nowhere\n";
-    let text = explain(&pattern(&entries), &two_nodes);
+    let text = explain(&pattern(&entries), &two_nodes).to_string();
     assert!(text.contains(holding), "{text}");
 }
 

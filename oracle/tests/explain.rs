@@ -1,18 +1,18 @@
-//! What `explain` says of the bench readings, of refusals, and of files that are large or missing.
+//! What is said of the bench readings, of refusals, and of files that are large.
 
 mod common;
 
 use common::*;
-use oracle::explain::explain;
-use std::fs;
-use std::path::{Path, PathBuf};
-use std::process::{Command, Output};
 
 const NOTATION: &str = "\
 Notation: pN property, nN name, !f not, (f&g) both, (f|g) either, <N>f after on axis N,
 [x=Ny] same and [x#Ny] differ on channel N; paths: /N step, @N jump to name N, ?f test,
 {x|y} fork, nothing the end of path; eN the entry of that number, which can't be typed
 ";
+
+fn explain(pattern: &[u8], proposal: &[u8]) -> String {
+    oracle::explain::explain(pattern, proposal).to_string()
+}
 
 /// What is said after the pattern and its notation.
 fn judgement(pattern: &[u8], proposal: &[u8]) -> String {
@@ -89,7 +89,8 @@ Where the node entries hold:
   e3 [/0#0/1]: node 0
   e4 (the root) ([/0=0/1]&[/0#0/1]): node 0
 
-Finding: met 0 1. The root holds at 1 node, the lowest is node 0.
+Finding: met 0 1. The root holds at node 0 alone.
+(The numbers are the lowest node where it holds, and at how many nodes it does.)
 ";
     assert_eq!(judgement(&pattern(&ENTRIES_G), &model_g()), expected);
 }
@@ -177,9 +178,14 @@ fn refused_patterns() {
          The file has 2 bytes and begins 50 41.\n"
     );
     assert_eq!(
+        explain(&model_g(), &[]),
+        "Finding: refused 1 0: the pattern file has under 6 bytes or doesn't begin with PAT.\n\
+         The file has 66 bytes and begins 44 41 54 01 00. DAT begins a model file.\n"
+    );
+    assert_eq!(
         explain(&pattern(&[]), &[]),
         "Finding: refused 3 0: the number of entries is zero, or the pattern file's length isn't 6 + 4 for each.\n\
-         The file says 0 entries, which makes 6 bytes; it has 6.\n"
+         The file says 0 entries, which makes 6 bytes; it has 6 bytes.\n"
     );
     assert_eq!(
         explain(&pattern(&[[1, 0, 0, 0], [5, 3, 200, 0]]), &[]),
@@ -213,7 +219,7 @@ fn refused_models() {
     short.pop();
     assert!(
         finding(&a, &short)
-            .ends_with("\nThe file says 4 nodes, 0 names, 3 edges, which makes 66 bytes; it has 65.\n")
+            .ends_with("\nThe file says 4 nodes, 0 names, 3 edges, which makes 66 bytes; it has 65 bytes.\n")
     );
     assert_eq!(
         finding(&a, &model(&[plain(0)], &[[1, 0], [2, 0], [1, 0]], &[])),
@@ -265,7 +271,7 @@ fn edges_that_do_not_rise() {
     let said = |edges: &[[u8; 3]]| finding(&a, &model(&[plain(0); 3], &[[1, 0]], edges));
     let meaning =
         "it doesn't come after the record before it (edges rise by from, then axis, then to, each once)";
-    let tool = "The tool `order` writes the same model with its edges in order.";
+    let tool = "`riser order` writes the same model with its edges in order.";
     assert_eq!(
         said(&[[0, 0, 0], [0, 0, 1], [0, 2, 1], [0, 2, 1], [2, 0, 0]]),
         format!(
@@ -418,52 +424,5 @@ fn the_finding_explained_is_the_finding_judged() {
         let said = finding(&files[0], &files[1]);
         let rest = said.strip_prefix(&expected);
         assert!(rest.is_some_and(|rest| rest.starts_with([',', ':', '.'])), "{expected}\n{said}\n{files:?}");
-    }
-}
-
-/// Runs the tool.
-fn run(arguments: &[&Path]) -> Output {
-    Command::new(env!("CARGO_BIN_EXE_explain")).args(arguments).output().unwrap()
-}
-
-/// A file in a directory that only these tests use.
-fn file(name: &str, bytes: &[u8]) -> PathBuf {
-    let path = Path::new(env!("CARGO_TARGET_TMPDIR")).join(name);
-    fs::write(&path, bytes).unwrap();
-    path
-}
-
-#[test]
-fn the_tool_prints_the_explanation() {
-    let (a, steps) = (pattern(&ENTRIES_A), tableau(0, &STEPS_A));
-    let output = run(&[&file("explain-a.pattern", &a), &file("explain-a.proposal", &steps)]);
-    assert!(output.status.success());
-    assert_eq!(String::from_utf8(output.stdout).unwrap(), explain(&a, &steps));
-    assert!(output.stderr.is_empty());
-}
-
-#[test]
-fn the_tool_names_a_file_that_it_cannot_read() {
-    let pattern = file("explain-alone.pattern", &pattern(&ENTRIES_A));
-    let output = run(&[&pattern, Path::new("there/is/no/such.proposal")]);
-    assert_eq!(output.status.code(), Some(1));
-    let message = String::from_utf8(output.stderr).unwrap();
-    assert!(
-        message.starts_with("explain: there/is/no/such.proposal: can't be read: No such file"),
-        "{message}"
-    );
-    assert!(output.stdout.is_empty());
-}
-
-#[test]
-fn the_tool_refuses_wrong_arguments() {
-    let one = Path::new("one");
-    for arguments in [&[][..], &[one], &[one, one, one], &[Path::new("--one"), one]] {
-        let output = run(arguments);
-        assert_eq!(output.status.code(), Some(2));
-        assert_eq!(
-            String::from_utf8(output.stderr).unwrap(),
-            "usage: explain (PATTERN | -e TEXT | --text FILE) PROPOSAL\n"
-        );
     }
 }

@@ -9,7 +9,7 @@ use oracle::finding::Finding;
 use oracle::model::{self, Model};
 use oracle::pattern::{self, Comparison, Entry, Pattern};
 use oracle::planner::builder::{Builder, END, MAX_ENTRIES};
-use oracle::planner::{Effort, Plan, close, impossible, meet, plan};
+use oracle::planner::{Effort, Plan, close, impossible, meet, plan, plan_watched};
 use oracle::tableau::rules::LAST_RULE;
 use oracle::tableau::{self, Tableau};
 
@@ -155,6 +155,34 @@ fn budget_is_kept() {
     let pattern = read(&ENTRIES_A);
     assert_eq!(close(&pattern, Effort { budget: 1, seed: 0 }), None);
     assert_eq!(plan(&pattern, Effort { budget: 1, seed: 0 }), None);
+}
+
+/// What is found while the budget is watched, and what the watcher was told.
+fn watched(pattern: &Pattern, budget: usize) -> (Option<Plan>, Vec<usize>) {
+    let mut told = Vec::new();
+    let found = plan_watched(pattern, Effort { budget, seed: 0 }, &mut |spent| told.push(spent));
+    (found, told)
+}
+
+#[test]
+fn a_watcher_is_told_what_of_the_budget_is_spent() {
+    let pattern = read(&ENTRIES_A);
+    assert_eq!(watched(&pattern, 2), (None, vec![0, 1]));
+    assert_eq!(watched(&pattern, 1000), (plan(&pattern, effort(0)), vec![0, 1]));
+}
+
+/// With 128 names no tableau begins: its half of the budget is passed over.
+#[test]
+fn a_watcher_is_told_half_of_the_budget_when_models_are_tried() {
+    let mut builder = Builder::default();
+    (0..128).for_each(|name| {
+        builder.name(name);
+    });
+    let property = builder.property(0);
+    let lacking = builder.not(property);
+    let root = builder.both(property, lacking);
+    let pattern = builder.finish(root).expect("131 entries");
+    assert_eq!(watched(&pattern, 10), (None, Vec::from_iter(5..10)));
 }
 
 /// Names that the root doesn't reach, or that any node may have, are listed too: without them a model is refused.

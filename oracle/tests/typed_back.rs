@@ -13,7 +13,7 @@ use std::path::Path;
 
 /// What is printed as the text to type, and whether it is said to give this very file; none if it is too long.
 fn printed(file: &[u8]) -> Option<(String, bool)> {
-    let explained = explain(file, b"");
+    let explained = explain(file, b"").to_string();
     let mut said = explained.lines().filter(|line| line.starts_with("Typed") || line.starts_with("Too long"));
     let (Some(line), None) = (said.next(), said.next()) else { panic!("{explained}") };
     let (how, text) = line.split_once(": ").expect("a text");

@@ -2,6 +2,7 @@
 
 pub mod benchmark;
 pub mod differential;
+pub mod ending;
 pub mod fast;
 pub mod generate;
 pub mod programs;

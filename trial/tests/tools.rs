@@ -1,6 +1,6 @@
 //! The tools' arguments, what they say of errors, and what they do if nobody takes what they print.
 
-#[path = "../../oracle/tests/common/output.rs"]
+#[path = "../../tools/tests/riser/common/output.rs"]
 mod output;
 
 use output::{run_full, run_unread};
@@ -9,6 +9,7 @@ use std::fs::{self, Permissions};
 use std::os::unix::ffi::OsStrExt;
 use std::os::unix::fs::PermissionsExt;
 use std::process::{Command, Output};
+use std::time::{Duration, Instant};
 use trial::generate::input::{Input, Operation};
 use trial::generate::{BLOCK, Generator};
 
@@ -93,6 +94,17 @@ fn an_output_that_is_full_is_an_error() {
     assert!(message(DIFFERENTIAL, &["--count", "10"]).starts_with("differential: standard output: "));
     assert!(message(PROGRAMS, &[OTHER]).starts_with("programs: standard output: "));
     assert!(message(BENCHMARK, &[]).starts_with("benchmark: standard output: "));
+}
+
+/// Both take longer than the half second after which a terminal is shown how far they are.
+#[test]
+fn progress_is_for_a_terminal_only() {
+    let begun = Instant::now();
+    let differential = text(&run(DIFFERENTIAL, &["--count", "40000"]).stderr);
+    assert!(begun.elapsed() > Duration::from_millis(500), "too short to be shown");
+    let is_of_the_tally = |line: &str| line.starts_with("differential: never occurred: ");
+    assert!(differential.lines().all(is_of_the_tally), "{differential:?}");
+    assert_eq!(text(&run(BENCHMARK, &["ordering"]).stderr), "");
 }
 
 #[test]

@@ -8,7 +8,6 @@
 use super::wording::count;
 use crate::model::area;
 use crate::pattern::{Entry, LONGEST, Path, Pattern};
-use crate::tool::counted;
 use crate::typed::{MAX_TEXT, sign, spell, type_pattern};
 use std::fmt;
 
@@ -17,7 +16,8 @@ const SHORT: usize = 30;
 /// The longest text that is written inside any number of entries.
 const TINY: usize = 8;
 
-const NOTATION: &str = "\
+/// How a formula is to be read.
+pub const NOTATION: &str = "\
 Notation: pN property, nN name, !f not, (f&g) both, (f|g) either, <N>f after on axis N,
 [x=Ny] same and [x#Ny] differ on channel N; paths: /N step, @N jump to name N, ?f test,
 {x|y} fork, nothing the end of path; eN the entry of that number, which can't be typed";
@@ -55,6 +55,12 @@ impl<'a> Formula<'a> {
     /// The path's text, and a word where it has none.
     pub fn path(&self, path: Path) -> &str {
         path.map_or("end", |entry| self.text(entry))
+    }
+
+    /// Whether some entry is mentioned by its label.
+    pub fn has_labels(&self) -> bool {
+        let mut mentioned = self.pattern.entries.iter().flat_map(Entry::references);
+        mentioned.any(|entry| self.labelled[entry])
     }
 
     /// The root's number.
@@ -99,9 +105,9 @@ impl<'a> Formula<'a> {
     }
 
     /// How the pattern is typed, and whether that gives another file.
-    fn typed(&self) -> String {
+    pub fn typed(&self) -> String {
         let Some(text) = spell(self.pattern) else {
-            return format!("Too long to type: its text has over {}.", counted(MAX_TEXT, "byte"));
+            return format!("Too long to type: its text has over {}.", count(MAX_TEXT, "byte", "bytes"));
         };
         let file = type_pattern(text.as_bytes(), LONGEST);
         if file == Ok(self.pattern.to_bytes()) {

@@ -31,9 +31,17 @@ pub fn numbered(formula: &Formula, branch: &[Line], number: usize) -> String {
     format!("[{number}] {}", line(formula, &branch[number]))
 }
 
-/// A number of things: `1 entry`, `2 entries`.
+/// A number of things: `1 entry`, `4,096 entries`.
 pub fn count(number: usize, one: &str, more: &str) -> String {
-    format!("{number} {}", if number == 1 { one } else { more })
+    format!("{} {}", in_thousands(number as u64), if number == 1 { one } else { more })
+}
+
+/// A number with its thousands apart: `10,000,000`.
+pub fn in_thousands(number: u64) -> String {
+    match number {
+        0..1000 => number.to_string(),
+        _ => format!("{},{:03}", in_thousands(number / 1000), number % 1000),
+    }
 }
 
 /// A model's counts of nodes, names and edges.

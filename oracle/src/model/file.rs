@@ -10,10 +10,10 @@ pub const MAX_NAMES: usize = 128;
 pub const MAX_EDGES: usize = 4096;
 
 const MARK: &[u8] = b"DAT";
-pub(crate) const HEADER_BYTES: usize = 9;
-pub(crate) const NODE_BYTES: usize = 12;
-pub(crate) const NAME_BYTES: usize = 2;
-pub(crate) const EDGE_BYTES: usize = 3;
+pub const HEADER_BYTES: usize = 9;
+pub const NODE_BYTES: usize = 12;
+pub const NAME_BYTES: usize = 2;
+pub const EDGE_BYTES: usize = 3;
 
 /// Refusals 10 to 14 and 28, or the model.
 pub fn parse(bytes: &[u8]) -> Result<Model, Refusal> {

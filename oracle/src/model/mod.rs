@@ -5,8 +5,9 @@ mod file;
 mod holds;
 mod order;
 
-pub(crate) use file::{EDGE_BYTES, HEADER_BYTES, NAME_BYTES, NODE_BYTES};
-pub use file::{MAX_EDGES, MAX_NAMES, MAX_NODES, parse, parse_old};
+pub use file::{
+    EDGE_BYTES, HEADER_BYTES, MAX_EDGES, MAX_NAMES, MAX_NODES, NAME_BYTES, NODE_BYTES, parse, parse_old,
+};
 pub use holds::{NodeSet, node_sets, path_ends, where_holds};
 pub use order::{in_order, order};
 

@@ -8,8 +8,8 @@ use crate::finding::Refusal;
 const END: u8 = 255;
 
 const MARK: &[u8] = b"PAT";
-pub(crate) const HEADER_BYTES: usize = 6;
-pub(crate) const ENTRY_BYTES: usize = 4;
+pub const HEADER_BYTES: usize = 6;
+pub const ENTRY_BYTES: usize = 4;
 
 /// What a field of an entry holds.
 #[derive(Clone, Copy, PartialEq, Eq)]

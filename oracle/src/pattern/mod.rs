@@ -2,8 +2,7 @@
 
 mod file;
 
-pub use file::parse;
-pub(crate) use file::{ENTRY_BYTES, HEADER_BYTES};
+pub use file::{ENTRY_BYTES, HEADER_BYTES, parse};
 
 use crate::finding::Finding;
 use std::collections::BTreeSet;

@@ -8,11 +8,16 @@ use crate::random::Random;
 
 const MOST_NODES: usize = 6;
 
-/// A model that meets the pattern, among as many as the budget allows.
-pub fn guess(pattern: &Pattern, effort: Effort) -> Option<Model> {
+/// A model that meets the pattern, among as many as the budget allows. The watcher is told before each how
+/// many were tried.
+pub fn guess(pattern: &Pattern, effort: Effort, watch: &mut dyn FnMut(usize)) -> Option<Model> {
     let mut random = Random::new(effort.seed, 0);
     let axes: Vec<u8> = (0..=MAX_AXIS).filter(|&axis| leads_by(pattern, axis)).collect();
-    (0..effort.budget).map(|_| any_model(pattern, &axes, &mut random)).find(|model| meets(pattern, model))
+    let model = |tried| {
+        watch(tried);
+        any_model(pattern, &axes, &mut random)
+    };
+    (0..effort.budget).map(model).find(|model| meets(pattern, model))
 }
 
 /// Whether judging the model finds the pattern met.

@@ -47,7 +47,7 @@ pub struct Effort {
 
 /// A closed tableau for the pattern, if one is found within the budget.
 pub fn close(pattern: &Pattern, effort: Effort) -> Option<Tableau> {
-    match search(pattern, effort) {
+    match search(pattern, effort, &mut |_| ()) {
         Outcome::Closed(tableau) => Some(tableau),
         Outcome::Open(_) | Outcome::Undecided => None,
     }
@@ -63,10 +63,18 @@ pub fn meet(pattern: &Pattern, effort: Effort) -> Option<Model> {
 
 /// Either: half of the budget is for the tableau and, if it stays undecided, half for models.
 pub fn plan(pattern: &Pattern, effort: Effort) -> Option<Plan> {
+    plan_watched(pattern, effort, &mut |_| ())
+}
+
+/// The same. The watcher is told before each step and each candidate model how much of the budget is spent:
+/// half of it as soon as models are tried.
+pub fn plan_watched(pattern: &Pattern, effort: Effort, watch: &mut dyn FnMut(usize)) -> Option<Plan> {
     let half = Effort { budget: effort.budget.div_ceil(2), ..effort };
-    match search(pattern, half) {
+    match search(pattern, half, watch) {
         Outcome::Closed(tableau) => Some(Plan::Tableau(tableau)),
         Outcome::Open(Some(model)) if meets(pattern, &model) => Some(Plan::Model(model)),
-        Outcome::Open(_) | Outcome::Undecided => guess(pattern, half).map(Plan::Model),
+        Outcome::Open(_) | Outcome::Undecided => {
+            guess(pattern, half, &mut |tried| watch(half.budget + tried)).map(Plan::Model)
+        }
     }
 }

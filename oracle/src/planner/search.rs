@@ -25,12 +25,12 @@ pub enum Outcome {
     Undecided,
 }
 
-/// Searches within the budget.
-pub fn search(pattern: &Pattern, effort: Effort) -> Outcome {
+/// Searches within the budget. The watcher is told before each step how many were taken.
+pub fn search(pattern: &Pattern, effort: Effort, watch: &mut dyn FnMut(usize)) -> Outcome {
     let mut random = Random::new(effort.seed, 0);
     let setting = Setting::new(pattern, effort.seed, &mut random);
     let Some(branch) = Branch::begin(&setting) else { return Outcome::Undecided };
-    let mut search = Search { random, budget: effort.budget };
+    let mut search = Search { random, budget: effort.budget, spent: 0, watch };
     match search.close(branch) {
         Ok(proof) => match proof.steps() {
             Some(steps) => Outcome::Closed(Tableau { start: setting.free[0], steps }),
@@ -73,12 +73,14 @@ struct Pending<'a> {
     left: Option<Proof>,
 }
 
-struct Search {
+struct Search<'w> {
     random: Random,
     budget: usize,
+    spent: usize,
+    watch: &'w mut dyn FnMut(usize),
 }
 
-impl Search {
+impl Search<'_> {
     /// Closes the branch and all sides of its forks, left sides first.
     fn close(&mut self, mut branch: Branch) -> Result<Proof, Stop> {
         let mut forks = Vec::new();
@@ -106,7 +108,7 @@ impl Search {
             if let Some(step) = branch.clash(&mut self.random) {
                 return Ok(Turn::Clash(step));
             }
-            self.budget = self.budget.checked_sub(1).ok_or(Stop::UsedUp)?;
+            self.spend()?;
             if branch.setting.habits.wanders && self.random.once_in(4) {
                 branch.wander(&mut self.random);
             }
@@ -118,6 +120,16 @@ impl Search {
                 return Err(Stop::Open(branch.model()));
             }
         }
+    }
+
+    /// Takes a step off the budget.
+    fn spend(&mut self) -> Result<(), Stop> {
+        if self.spent == self.budget {
+            return Err(Stop::UsedUp);
+        }
+        (self.watch)(self.spent);
+        self.spent += 1;
+        Ok(())
     }
 
     /// From a closed side back to the next right side, or to the proof if there is none. A side that closes

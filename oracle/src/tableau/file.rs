@@ -8,9 +8,17 @@ use crate::pattern::{MAX_NAME, Pattern};
 
 pub const MAX_STEPS: usize = 4096;
 
-pub(crate) const MARK: &[u8] = b"TAB";
+const MARK: &[u8] = b"TAB";
 pub const HEADER_BYTES: usize = 8;
 pub const STEP_BYTES: usize = 6;
+
+/// The bytes of the longest tableau file, which is longer than any pattern or model file.
+pub const LONGEST: usize = HEADER_BYTES + STEP_BYTES * MAX_STEPS;
+
+/// Whether a proposal is to be judged as a tableau, as the bench program does it.
+pub fn is_marked(proposal: &[u8]) -> bool {
+    proposal.starts_with(MARK)
+}
 
 /// Refusals 15 to 18, or the tableau.
 pub fn parse(pattern: &Pattern, bytes: &[u8]) -> Result<Tableau, Refusal> {

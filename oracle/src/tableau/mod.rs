@@ -6,8 +6,7 @@ pub mod line;
 pub mod rules;
 pub mod walk;
 
-pub(crate) use file::MARK;
-pub use file::{HEADER_BYTES, MAX_STEPS, STEP_BYTES, parse};
+pub use file::{HEADER_BYTES, LONGEST, MAX_STEPS, STEP_BYTES, is_marked, parse};
 
 use crate::finding::{Finding, Refusal};
 use crate::pattern::{self, Pattern};

@@ -1,10 +1,7 @@
 //! Files written byte by byte for the tests, and the samples of document 01's bench readings.
 #![allow(dead_code, reason = "each test file uses its own part")]
 
-pub mod directory;
-pub mod output;
 pub mod texts;
-pub mod tool;
 
 /// A pattern file: entries are kind, x, y, z.
 pub fn pattern(entries: &[[u8; 4]]) -> Vec<u8> {

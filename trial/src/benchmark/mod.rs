@@ -26,6 +26,6 @@ pub const GROUPS: [(&str, Tables); 7] = [
     ("tableau", || report::ratios("tableau", tableaux::cases())),
     ("ordering", || report::ratios("ordering", older::cases())),
     ("typing", || report::ratios("typing", texts::cases())),
-    ("growth", || Box::new(growth::all().into_iter().flat_map(report::exponents))),
+    ("growth", || report::growths(growth::all())),
     ("stack", || report::stacks(inputs::deepest())),
 ];

@@ -6,18 +6,42 @@ use super::judge::{FAST, JUDGES, PROVED};
 use super::stack;
 use super::timing::nanoseconds;
 use std::iter::once;
+use tools::progress;
 
 /// The lines of tables. A case on which the implementations differ is an error.
 pub type Lines = Box<dyn Iterator<Item = Result<String, String>>>;
 
+/// Which of a group's cases is next.
+#[derive(Clone, Copy)]
+struct Counter {
+    group: &'static str,
+    next: usize,
+    total: usize,
+}
+
+impl Counter {
+    fn new(group: &'static str, total: usize) -> Counter {
+        Counter { group, next: 1, total }
+    }
+
+    /// Shows at a terminal that the case is measured, until what is given is dropped.
+    fn measuring(&mut self, case: &str) -> Option<progress::Line> {
+        let Counter { group, next, total } = *self;
+        self.next += 1;
+        progress::show(&format!("benchmark: {group}, {next} of {total}: {case}"))
+    }
+}
+
 /// Times the cases, a line each.
-pub fn ratios(title: &str, cases: Vec<Case>) -> Lines {
+pub fn ratios(title: &'static str, cases: Vec<Case>) -> Lines {
     let judges = JUDGES.map(|judge| format!("{:>12}", judge.name)).concat();
     let head = format!(
         "\n{title}: nanoseconds of one judgement, and ratios\n{:36}{:28}{judges}{:>15}{:>13}\n",
         "input", "finding", "proved/oracle", "proved/fast"
     );
-    let line = |case: Case| {
+    let mut counter = Counter::new(title, cases.len());
+    let line = move |case: Case| {
+        let _shown = counter.measuring(&case.name);
         let finding = case.agreed()?;
         let [proved, oracle, fast] = nanoseconds(&case);
         let times = format!("{proved:12.0}{oracle:12.0}{fast:12.0}");
@@ -27,9 +51,19 @@ pub fn ratios(title: &str, cases: Vec<Case>) -> Lines {
     Box::new(once(Ok(head)).chain(cases.into_iter().map(line)))
 }
 
+/// Times series of inputs that grow, a table each.
+pub fn growths(all: Vec<Series>) -> Lines {
+    let mut counter = Counter::new("growth", all.iter().map(|series| series.points.len()).sum());
+    Box::new(all.into_iter().flat_map(move |series| {
+        let first = counter;
+        counter.next += series.points.len();
+        exponents(series, first)
+    }))
+}
+
 /// Times a series of inputs that grow, with the exponents between neighbours: 1 for time that grows like the
 /// input, 2 for its square.
-pub fn exponents(series: Series) -> Lines {
+fn exponents(series: Series, mut counter: Counter) -> Lines {
     let judges = JUDGES.map(|judge| format!("{:>14}{:>6}", judge.name, "exp")).concat();
     let head = format!(
         "\n{}: nanoseconds, and the exponent since the line above\n{:>10}{judges}\n",
@@ -37,6 +71,7 @@ pub fn exponents(series: Series) -> Lines {
     );
     let mut before: Option<(usize, [f64; 3])> = None;
     let line = move |(size, case): (usize, Case)| {
+        let _shown = counter.measuring(&format!("{size} {}", series.unit));
         case.agreed()?;
         let times = nanoseconds(&case);
         let mut line = format!("{size:10}");
@@ -59,7 +94,9 @@ pub fn stacks(cases: Vec<Case>) -> Lines {
         "\nstack: bytes below the caller's frame\n{:36}{:28}{:>12}{:>12}\n",
         "input", "finding", PROVED.name, FAST.name
     );
-    let line = |case: Case| {
+    let mut counter = Counter::new("stack", cases.len());
+    let line = move |case: Case| {
+        let _shown = counter.measuring(&case.name);
         let finding = case.agreed()?;
         let [proved, fast] = [PROVED, FAST].map(|judge| stack::bytes(&judge, &case));
         Ok(format!("{:36}{finding:28}{proved:12}{fast:12}\n", case.name))

@@ -1,10 +1,11 @@
 //! `benchmark [GROUP..]`: times the proved library against the other implementations, on all groups of inputs
 //! or on those named.
 
-use oracle::tool;
 use std::ffi::OsString;
 use std::process::ExitCode;
+use tools::output::print;
 use trial::benchmark::GROUPS;
+use trial::ending::status;
 
 fn main() -> ExitCode {
     let named: Vec<OsString> = std::env::args_os().skip(1).collect();
@@ -14,7 +15,7 @@ fn main() -> ExitCode {
         eprintln!("benchmark: no group is called {unknown:?}\nusage: benchmark [{groups}]..");
         return ExitCode::from(2);
     }
-    tool::status("benchmark", run(&named))
+    status("benchmark", run(&named))
 }
 
 /// Prints the tables, line by line as they are made, until nobody reads them any longer.
@@ -22,7 +23,7 @@ fn run(named: &[OsString]) -> Result<bool, String> {
     let wanted = |group: &str| named.is_empty() || named.iter().any(|name| name == group);
     for (_, lines) in GROUPS.iter().filter(|(group, _)| wanted(group)) {
         for line in lines() {
-            if !tool::print(line?)? {
+            if !print(line?)? {
                 return Ok(true);
             }
         }

@@ -1,15 +1,16 @@
 //! The differential run: generated inputs, judged by the proved library, by the independent
 //! implementation and by the fast one, which must agree in everything they leave behind.
 
-use oracle::tool;
 use std::collections::BTreeMap;
 use std::ffi::OsString;
 use std::process::ExitCode;
+use tools::output::print;
 use trial::differential::compare::Comparer;
 use trial::differential::implementation::{FAST, Implementation, ORACLE, UNIT};
 use trial::differential::run::{Failure, Run, against};
 use trial::differential::tally::Tally;
 use trial::differential::{fault, report};
+use trial::ending::status;
 use trial::generate::Generator;
 use trial::generate::input::Input;
 
@@ -47,7 +48,7 @@ fn main() -> ExitCode {
             Err(failure) => fails(run.seed, &failure),
         },
     };
-    tool::status("differential", passed)
+    status("differential", passed)
 }
 
 fn arguments(words: impl Iterator<Item = OsString>) -> Option<Arguments> {
@@ -85,7 +86,7 @@ fn options(mut words: impl Iterator<Item = OsString>) -> Option<BTreeMap<&'stati
 
 /// Prints the table, and what never occurred.
 fn passes(tally: &Tally) -> Result<bool, String> {
-    tool::print(tally)?;
+    print(tally)?;
     let missing = tally.missing();
     for what in &missing {
         eprintln!("differential: never occurred: {what}");
@@ -105,13 +106,13 @@ fn fails(seed: u64, failure: &Failure) -> Result<bool, String> {
 fn show(seed: u64, number: u64) -> Result<bool, String> {
     let mut input = Input::blank();
     Generator::new(seed).make(number, &mut input);
-    tool::print(report::describe(&input, seed, number))?;
+    print(report::describe(&input, seed, number))?;
     fault::note(number);
     let (findings, difference) =
         report::findings(&mut Comparer::new(), &input, against(number), &IMPLEMENTATIONS);
-    tool::print(findings)?;
+    print(findings)?;
     if let Some(difference) = &difference {
-        tool::print(format!("difference  {difference}\n"))?;
+        print(format!("difference  {difference}\n"))?;
     }
     Ok(difference.is_none())
 }

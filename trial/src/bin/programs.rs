@@ -2,10 +2,10 @@
 //! compares the line it prints with what the independent implementation finds; or the typist on a few
 //! hundred texts, and compares what it prints and writes.
 
-use oracle::tool;
 use std::ffi::OsString;
 use std::path::Path;
 use std::process::ExitCode;
+use trial::ending::status;
 use trial::programs;
 
 const USAGE: &str = "usage: programs PROGRAM [SAMPLES]
@@ -22,5 +22,5 @@ fn main() -> ExitCode {
             return ExitCode::from(2);
         }
     };
-    tool::status("programs", passed)
+    status("programs", passed)
 }

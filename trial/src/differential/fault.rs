@@ -3,6 +3,8 @@
 use std::cell::Cell;
 use std::ffi::{c_int, c_void};
 use std::io::Write;
+use std::sync::OnceLock;
+use tools::progress;
 
 /// The calls of POSIX that it takes, with their values on Linux.
 mod posix {
@@ -26,6 +28,9 @@ thread_local! {
     static NUMBER: Cell<u64> = const { Cell::new(0) };
 }
 
+/// What takes the run's progress away, so that the report has a line of its own.
+static ERASURE: OnceLock<&str> = OnceLock::new();
+
 /// Notes which input the thread is at.
 pub fn note(number: u64) {
     NUMBER.set(number);
@@ -33,8 +38,9 @@ pub fn note(number: u64) {
 
 /// From now on an access to a page that may not be touched is reported with the input's number.
 pub fn watch() {
-    // SAFETY: the handler only reads a number of its thread, writes to its own stack and makes two
-    // calls that POSIX allows in a handler.
+    ERASURE.get_or_init(progress::erasure);
+    // SAFETY: the handler only reads a number of its thread and what is set by now, writes to its own stack
+    // and makes two calls that POSIX allows in a handler.
     unsafe { posix::signal(posix::SIGSEGV, report) };
 }
 
@@ -42,7 +48,8 @@ extern "C" fn report(_signal: c_int) {
     let mut text = [0; 100];
     let mut rest = &mut text[..];
     let number = NUMBER.get();
-    let written = writeln!(rest, "differential: access outside the lent bytes, input {number}");
+    let erasure = ERASURE.get().unwrap_or(&"");
+    let written = writeln!(rest, "{erasure}differential: access outside the lent bytes, input {number}");
     let length = if written.is_ok() { 100 - rest.len() } else { 0 };
     // SAFETY: the bytes are those of `text`, which has that length at least.
     unsafe {

@@ -4,6 +4,7 @@ use super::composed;
 use crate::fast;
 use crate::generate::input::Operation;
 use oracle::finding::{Finding, Refusal};
+use tools::agreed::found;
 
 /// The bytes lent to an operation; the area of one that writes a file is the destination. The pattern and the
 /// proposal can be changed as far as Rust knows, so that a comparison can be tested with an implementation that does
@@ -110,19 +111,5 @@ pub fn judge_typed(
     match types(lent.pattern, &mut file) {
         Finding::Written { length } => judge(&file[..length.into()], lent.proposal, lent.area),
         refused => refused,
-    }
-}
-
-/// What the proved library found.
-fn found(finding: unit::Finding) -> Finding {
-    match finding {
-        unit::Finding::Read { entries } => Finding::Read { entries },
-        unit::Finding::Met { lowest, number } => Finding::Met { lowest, number },
-        unit::Finding::Unmet => Finding::Unmet,
-        unit::Finding::Closed { steps, clashes, forks, most } => {
-            Finding::Closed { steps, clashes, forks, most }
-        }
-        unit::Finding::Written { length } => Finding::Written { length },
-        unit::Finding::Refused { number, place } => Finding::Refused(Refusal { number, place }),
     }
 }

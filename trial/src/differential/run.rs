@@ -8,7 +8,7 @@ use super::tally::Tally;
 use crate::generate::input::Input;
 use crate::generate::{BLOCK, Generator};
 use std::sync::atomic::{AtomicBool, AtomicU64, Ordering::Relaxed};
-use std::time::Instant;
+use tools::progress::Progress;
 
 /// Which inputs are run: numbers 0 to count − 1 of the seed.
 #[derive(Clone, Copy, Debug)]
@@ -44,7 +44,7 @@ impl Run {
         let shared = Shared {
             next: AtomicU64::new(0),
             failed: AtomicBool::new(false),
-            progress: Progress::new(self.count),
+            progress: Progress::new("differential", self.count, "inputs"),
         };
         let results = std::thread::scope(|scope| {
             let work = || self.work(&shared, implementations);
@@ -68,7 +68,7 @@ impl Run {
             if numbers.is_empty() {
                 break;
             }
-            shared.progress.advance(numbers.end - numbers.start);
+            shared.progress.reached(first);
             for number in numbers {
                 fault::note(number);
                 generator.make(number, &mut input);
@@ -98,28 +98,5 @@ fn merge(results: Vec<Result<Tally, Box<Failure>>>) -> Result<Tally, Box<Failure
     match failures.into_iter().min_by_key(|failure| failure.number) {
         Some(failure) => Err(failure),
         None => Ok(sum),
-    }
-}
-
-/// Says on stderr, once a minute, how far the run is.
-struct Progress {
-    count: u64,
-    begun: Instant,
-    inputs: AtomicU64,
-    minutes: AtomicU64,
-}
-
-impl Progress {
-    fn new(count: u64) -> Progress {
-        Progress { count, begun: Instant::now(), inputs: AtomicU64::new(0), minutes: AtomicU64::new(0) }
-    }
-
-    /// Notes that so many more inputs are under way.
-    fn advance(&self, more: u64) {
-        let inputs = self.inputs.fetch_add(more, Relaxed);
-        let minutes = self.begun.elapsed().as_secs() / 60;
-        if self.minutes.fetch_max(minutes, Relaxed) < minutes {
-            eprintln!("differential: {inputs} of {} inputs after {minutes} min", self.count);
-        }
     }
 }

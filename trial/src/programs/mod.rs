@@ -6,11 +6,11 @@ mod pairs;
 pub mod typist;
 
 use folder::Folder;
-use oracle::tool;
 use pairs::{generated, odd_files, sampled};
 use std::io;
 use std::path::Path;
 use std::process::Command;
+use tools::output::print;
 
 /// The bytes that the program reads of either file: "`pattern.bin` (up to 1,027 bytes) and
 /// `proposal.bin` (up to 24,585)".
@@ -25,10 +25,10 @@ pub fn run(program: &Path, samples: Option<&Path>) -> Result<bool, String> {
     let program = program.canonicalize().map_err(|error| naming(program, error))?;
     let pairs = [generated(), odd_files(), samples.map_or(Ok(Vec::new()), sampled)?];
     let [generated, odd, samples] = pairs.each_ref().map(Vec::len);
-    tool::print(format!("programs: {generated} pairs generated, {odd} of odd files, {samples} samples\n"))?;
+    print(format!("programs: {generated} pairs generated, {odd} of odd files, {samples} samples\n"))?;
     let folder = Folder::new()?;
     if folder.opens_shut()? {
-        tool::print("programs: run as root: files without permission open all the same\n")?;
+        print("programs: run as root: files without permission open all the same\n")?;
     }
     let mut wrong = 0;
     for pair in pairs.iter().flatten() {
@@ -41,7 +41,7 @@ pub fn run(program: &Path, samples: Option<&Path>) -> Result<bool, String> {
         }
     }
     let all = generated + odd + samples;
-    tool::print(format!("programs: {all} pairs of files, {wrong} judged otherwise than expected\n"))?;
+    print(format!("programs: {all} pairs of files, {wrong} judged otherwise than expected\n"))?;
     Ok(wrong == 0)
 }
 

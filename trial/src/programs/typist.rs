@@ -9,11 +9,11 @@ use crate::generate::Generator;
 use crate::generate::input::{Input, Operation};
 use crate::generate::texts::exactly;
 use oracle::finding::Finding;
-use oracle::tool;
 use std::io::{self, ErrorKind, Write};
 use std::path::Path;
 use std::process::{Child, Command, Output, Stdio};
 use std::time::Duration;
+use tools::output::print;
 use unit::PATTERN_LONGEST;
 
 /// How many texts of the differential run are tried, and of which seed.
@@ -40,7 +40,7 @@ pub fn run(program: &Path) -> Result<bool, String> {
     let program = program.canonicalize().map_err(|error| naming(program, error))?;
     let texts = [generated(), odd(), in_pieces()];
     let [generated, odd, pieces] = texts.each_ref().map(Vec::len);
-    tool::print(format!(
+    print(format!(
         "programs: {generated} texts generated, {odd} odd ones, {pieces} in pieces, 1 that can't be written\n"
     ))?;
     let folder = Folder::new()?;
@@ -59,7 +59,7 @@ pub fn run(program: &Path) -> Result<bool, String> {
             eprintln!("programs: {}: {found}, expected {expected}", typed.words);
         }
     }
-    tool::print(format!("programs: {all} texts, {wrong} typed otherwise than expected\n"))?;
+    print(format!("programs: {all} texts, {wrong} typed otherwise than expected\n"))?;
     Ok(wrong == 0)
 }
 

@@ -1,10 +1,11 @@
 //! What stands at the place of a refusal of a file: 1 to 8, 10 to 14, 15 to 18, 28.
 
-use super::{refused, sentence};
+use super::{Conclusion, refused};
 use crate::bytes::u16_at;
 use crate::explain::wording::{count, counts, hexadecimal};
 use crate::finding::Refusal;
 use crate::pattern::{MAX_AXIS, MAX_NAME, Pattern};
+use crate::typed::parse;
 use crate::{model, pattern, tableau};
 
 /// By kind, from 1: its name and the fields that it uses.
@@ -23,9 +24,14 @@ const KINDS: [(&str, &str); 12] = [
     ("either", "x node entry, y node entry"),
 ];
 
-pub fn of_pattern(bytes: &[u8], refusal: Refusal) -> String {
+/// A kind's name and the fields that it uses; `None` for a kind that there isn't.
+pub fn kind(number: u8) -> Option<(&'static str, &'static str)> {
+    KINDS.get((number as usize).checked_sub(1)?).copied()
+}
+
+pub fn of_pattern(bytes: &[u8], refusal: Refusal) -> Conclusion {
     let detail = match refusal.number {
-        1 | 2 => beginning(bytes),
+        1 | 2 => beginning(bytes, "PAT"),
         3 => {
             let entries = bytes[5] as usize;
             let wanted = pattern::HEADER_BYTES + pattern::ENTRY_BYTES * entries;
@@ -33,17 +39,17 @@ pub fn of_pattern(bytes: &[u8], refusal: Refusal) -> String {
         }
         _ => entry(&bytes[pattern::HEADER_BYTES..], refusal),
     };
-    sentence(refusal, &detail)
+    refused(refusal, &detail)
 }
 
-pub fn of_model(bytes: &[u8], refusal: Refusal) -> String {
-    sentence(refusal, &model_detail(bytes, refusal))
+pub fn of_model(bytes: &[u8], refusal: Refusal) -> Conclusion {
+    refused(refusal, &at_model(bytes, refusal))
 }
 
 /// What stands at the place of refusal 10 to 14 or 28 of a model file.
-pub fn model_detail(bytes: &[u8], refusal: Refusal) -> String {
+fn at_model(bytes: &[u8], refusal: Refusal) -> String {
     if matches!(refusal.number, 10 | 11) {
-        return beginning(bytes);
+        return beginning(bytes, "DAT");
     }
     let (nodes, names, edges) = (bytes[5] as usize, bytes[6] as usize, u16_at(bytes, 7) as usize);
     let name_records = model::HEADER_BYTES + model::NODE_BYTES * nodes;
@@ -56,9 +62,9 @@ pub fn model_detail(bytes: &[u8], refusal: Refusal) -> String {
     }
 }
 
-pub fn of_tableau(pattern: &Pattern, bytes: &[u8], refusal: Refusal) -> String {
+pub fn of_tableau(pattern: &Pattern, bytes: &[u8], refusal: Refusal) -> Conclusion {
     let detail = match refusal.number {
-        15 | 16 => beginning(bytes),
+        15 | 16 => beginning(bytes, "TAB"),
         17 => {
             let steps = u16_at(bytes, 6) as usize;
             let wanted = tableau::HEADER_BYTES + tableau::STEP_BYTES * steps;
@@ -66,22 +72,47 @@ pub fn of_tableau(pattern: &Pattern, bytes: &[u8], refusal: Refusal) -> String {
         }
         _ => start_name(pattern, bytes[5]),
     };
-    sentence(refusal, &detail)
+    refused(refusal, &detail)
 }
 
-/// The mark and the version, as far as they are there.
-fn beginning(bytes: &[u8]) -> String {
+/// The mark and the version, as far as they are there, of a file that should have its own mark.
+fn beginning(bytes: &[u8], own: &str) -> String {
     match bytes.len() {
         0 => "The file is empty.".to_string(),
         length => {
             let begins = hexadecimal(&bytes[..length.min(5)]);
-            format!("The file has {} and begins {begins}.", count(length, "byte", "bytes"))
+            format!("The file has {} and begins {begins}.{}", file_length(length), other_sort(bytes, own))
         }
     }
 }
 
+/// What the file is by its mark, if it is of another sort than wanted: two files may have been exchanged.
+fn other_sort(bytes: &[u8], own: &str) -> String {
+    let sorts = [("PAT", "pattern"), ("DAT", "model"), ("TAB", "tableau")];
+    let other = sorts.into_iter().find(|(mark, _)| *mark != own && bytes.starts_with(mark.as_bytes()));
+    match other {
+        Some((mark, sort)) => format!(" {mark} begins a {sort} file."),
+        None if own == "PAT" && is_text(bytes) => " It is a typed pattern, which --text takes.".to_string(),
+        None => String::new(),
+    }
+}
+
+/// Whether a file has a typed pattern, with a line feed at its end or without.
+fn is_text(bytes: &[u8]) -> bool {
+    parse(bytes.strip_suffix(b"\n").unwrap_or(bytes)).is_ok()
+}
+
 fn lengths(bytes: &[u8], says: &str, wanted: usize) -> String {
-    format!("The file says {says}, which makes {wanted} bytes; it has {}.", bytes.len())
+    let wanted = count(wanted, "byte", "bytes");
+    format!("The file says {says}, which makes {wanted}; it has {}.", file_length(bytes.len()))
+}
+
+/// How long a file is. Of one that is longer than any of the unit's a tool reads only so much as shows it.
+pub fn file_length(length: usize) -> String {
+    match length {
+        0..=tableau::LONGEST => count(length, "byte", "bytes"),
+        _ => format!("over {}", count(tableau::LONGEST, "byte", "bytes")),
+    }
 }
 
 /// The entry's bytes, what its kind uses, and the earlier entry that a repeat equals.
@@ -90,9 +121,9 @@ fn entry(records: &[u8], refusal: Refusal) -> String {
     let record = |number: usize| &records[pattern::ENTRY_BYTES * number..][..pattern::ENTRY_BYTES];
     let fields: Vec<String> = record(place).iter().map(u8::to_string).collect();
     let mut text = format!("Entry {place} is {}.", fields.join(","));
-    let kind = record(place)[0];
-    if let Some((name, uses)) = KINDS.get((kind as usize).wrapping_sub(1)) {
-        text += &format!(" Kind {kind} ({name}) uses {uses}.");
+    let number = record(place)[0];
+    if let Some((name, uses)) = kind(number) {
+        text += &format!(" Kind {number} ({name}) uses {uses}.");
     }
     if let Some(earlier) = (0..place).find(|&earlier| record(earlier) == record(place)) {
         text += &format!(" Entry {earlier} is the same.");
@@ -139,8 +170,8 @@ fn edge_order(records: &[u8], place: usize) -> String {
 /// What helps against edges out of order, unless a later one is at fault besides.
 fn remedy(bytes: &[u8]) -> String {
     match model::parse_old(bytes) {
-        Ok(_) => "The tool `order` writes the same model with its edges in order.".to_string(),
-        Err(later) => format!("Behind it stands another fault: {}.", refused(later)),
+        Ok(_) => "`riser order` writes the same model with its edges in order.".to_string(),
+        Err(later) => format!("Behind it stands another fault: {}.", refused(later, "").line()),
     }
 }
 

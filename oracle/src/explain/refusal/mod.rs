@@ -5,31 +5,29 @@ mod names;
 mod step;
 mod text;
 
-pub use file::{model_detail, of_model, of_pattern, of_tableau};
-pub use names::of_names;
-pub use step::of_step;
-pub use text::{of_text, text_refused};
+pub(super) use file::of_tableau;
+pub use file::{file_length, kind, of_model, of_pattern};
+pub(super) use names::of_names;
+pub(super) use step::of_step;
+pub use text::{of_text, shown};
 
+use super::Conclusion;
 use crate::finding::{Finding, Refusal};
 
-/// The finding, the meaning of its number, and what was found at its place.
-fn sentence(refusal: Refusal, detail: &str) -> String {
-    format!("Finding: {}.\n{detail}\n", refused(refusal))
-}
-
-/// The refusal as the bench program prints it, what its place is, and what its number means.
-pub fn refused(refusal: Refusal) -> String {
+/// The refusal, what it points at and what its number means, with what was found at its place.
+fn refused(refusal: Refusal, detail: &str) -> Conclusion {
     let Refusal { number, place } = refusal;
-    let where_at = match number {
-        4..=8 => format!(", entry {place}"),
-        13 => format!(", name record {place}"),
-        14 | 28 => format!(", edge record {place}"),
-        19..=25 => format!(", step {place}"),
-        27 => format!(", name n{place}"),
-        30 | 31 => format!(", byte {place}"),
+    let at = match number {
+        4..=8 => format!("entry {place}"),
+        13 => format!("name record {place}"),
+        14 | 28 => format!("edge record {place}"),
+        19..=25 => format!("step {place}"),
+        27 => format!("name n{place}"),
+        30 | 31 => format!("byte {place}"),
         _ => String::new(),
     };
-    format!("{}{where_at}: {}", Finding::Refused(refusal), MEANINGS[number as usize - 1])
+    let meaning = MEANINGS[number as usize - 1];
+    Conclusion { at, ..Conclusion::found(Finding::Refused(refusal), meaning) }.with(detail)
 }
 
 /// By refusal number, from 1 to 32: what documents 01 and 02 say of it, and with 27 what may have happened. Of 30, what

@@ -1,13 +1,13 @@
 //! What refusal 27 points at: the entries that have the name, and the other names that aren't listed.
 
-use super::sentence;
+use super::{Conclusion, refused};
 use crate::explain::wording::joined;
 use crate::finding::Refusal;
 use crate::model::Model;
 use crate::pattern::Pattern;
 
 /// The refusal's place is a name that the pattern uses.
-pub fn of_names(pattern: &Pattern, model: &Model, refusal: Refusal) -> String {
+pub fn of_names(pattern: &Pattern, model: &Model, refusal: Refusal) -> Conclusion {
     let name = refusal.place as u8;
     let mut detail = users(pattern, name);
     let others = pattern.names().into_iter().filter(|&other| other != name && !model.lists(other));
@@ -15,7 +15,7 @@ pub fn of_names(pattern: &Pattern, model: &Model, refusal: Refusal) -> String {
     if !others.is_empty() {
         detail += &format!("\nNot listed either: {others}.");
     }
-    sentence(refusal, &detail)
+    refused(refusal, &detail)
 }
 
 /// The entries that have the name, of which there is at least one.

@@ -1,6 +1,6 @@
 //! What stands at the place of a refusal of a step (25, 19 to 24), and what is open at the end (26).
 
-use super::sentence;
+use super::{Conclusion, refused};
 use crate::explain::formula::Formula;
 use crate::explain::rule;
 use crate::explain::wording::{count, numbered};
@@ -17,9 +17,9 @@ pub fn of_step(
     walk: &Walk,
     tableau: &Tableau,
     refusal: Refusal,
-) -> String {
+) -> Conclusion {
     let Some(step) = tableau.steps.get(refusal.place as usize) else {
-        return sentence(refusal, &format!("{} No clash ends the branch.", standing(walk)));
+        return refused(refusal, &format!("{} No clash ends the branch.", standing(walk)));
     };
     let mut details = vec![bare(step)];
     match refusal.number {
@@ -31,7 +31,7 @@ pub fn of_step(
         22 => details.push(user(pattern, formula, walk, step.argument)),
         _ => {}
     }
-    sentence(refusal, &details.join("\n"))
+    refused(refusal, &details.join("\n"))
 }
 
 /// All fields of the step, whether its rule uses them or not.

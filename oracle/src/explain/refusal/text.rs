@@ -1,10 +1,9 @@
 //! What stands at the place of a refusal of a text: 30 to 32.
 
-use super::refused;
+use super::{Conclusion, refused};
 use crate::explain::wording::{count, joined};
 use crate::finding::{Finding, Refusal};
 use crate::pattern::{MAX_AXIS, MAX_CHANNEL, MAX_NAME, MAX_PROPERTY};
-use crate::tool::counted;
 use crate::typed::{Fault, MAX_TEXT, entries_of, parse};
 
 /// The longest text that is shown whole, and how much of a longer one is shown before and behind a place.
@@ -12,27 +11,18 @@ const WHOLE: usize = 70;
 const BEFORE: usize = 40;
 const BEHIND: usize = 24;
 
-pub fn of_text(text: &[u8], refusal: Refusal) -> String {
-    let (refused, detail) = told(text, refusal);
-    format!("Finding: {refused}.{detail}\n")
-}
-
-/// The refusal and what stands at its place, for a message.
-pub fn text_refused(text: &[u8], refusal: Refusal) -> String {
-    let (refused, detail) = told(text, refusal);
-    refused + &detail
-}
-
 /// The refusal, and in further lines what was wanted at its place, and the text with a mark under it; of 32, how many
 /// entries there are. A text that is too long needs no more than to be called so.
-fn told(text: &[u8], refusal: Refusal) -> (String, String) {
+pub fn of_text(text: &[u8], refusal: Refusal) -> Conclusion {
     let detail = match parse(text) {
         Err(Fault::Long) => {
-            let longest = counted(MAX_TEXT, "byte");
-            return (format!("{}: the text has over {longest}", Finding::Refused(refusal)), String::new());
+            let longest = count(MAX_TEXT, "byte", "bytes");
+            return Conclusion::found(Finding::Refused(refusal), &format!("the text has over {longest}"));
         }
         Err(Fault::Stray { place, wanted }) => {
-            format!("Wanted there: {}.\n{}", wanted_words(&text[..place], wanted), marked(text, place))
+            let wanted = wanted_words(&text[..place], wanted);
+            let blank = if text.get(place) == Some(&b' ') { " A typed pattern has no spaces." } else { "" };
+            format!("Wanted there: {wanted}.{blank}\n{}", marked(text, place))
         }
         Err(Fault::Range { place }) => format!(
             "The last property is {MAX_PROPERTY}, the last name {MAX_NAME}, axis {MAX_AXIS}, channel {MAX_CHANNEL}.\n{}",
@@ -40,7 +30,13 @@ fn told(text: &[u8], refusal: Refusal) -> (String, String) {
         ),
         Ok(node) => format!("The text makes {}.", count(entries_of(&node).len(), "entry", "entries")),
     };
-    (refused(refusal), format!("\n{detail}"))
+    match refused(refusal, &detail) {
+        empty if text.is_empty() => Conclusion { meaning: "the text is empty".to_string(), ..empty },
+        cut if refusal.number == 30 && usize::from(refusal.place) == text.len() => {
+            Conclusion { meaning: "the text ends there, which no typed pattern does".to_string(), ..cut }
+        }
+        refused => refused,
+    }
 }
 
 /// What may follow the text so far: another digit, if a number other than 0 stands at its end, or what was asked for.
@@ -76,7 +72,7 @@ fn marked(text: &[u8], place: usize) -> String {
 }
 
 /// Bytes as they stand; those that can't be seen as escapes.
-fn shown(bytes: &[u8]) -> String {
+pub fn shown(bytes: &[u8]) -> String {
     let seen = |byte: u8| match byte {
         b' '..=b'~' => char::from(byte).to_string(),
         _ => byte.escape_ascii().to_string(),
