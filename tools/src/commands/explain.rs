@@ -72,6 +72,7 @@ fn as_page(page: &Path, over: bool, source: &Source, file: &Path) -> Result<Stat
             (page::refused_text(&names, &text, refusal, &conclusion), conclusion)
         }
     };
+    // Of a refused text the proposal isn't looked for, and need not be there.
     let read = [(source.file(), "the pattern"), (file.exists().then_some(file), "the proposal")];
     target::claim(page, over, &read)?.write(html.as_bytes())?;
     let written = format!("{}: the page, {}", files::name(page), count(html.len(), "byte", "bytes"));
