@@ -14,7 +14,7 @@ use branch::{Branches, step_id};
 use oracle::explain::Conclusion;
 use oracle::explain::formula::Formula;
 use oracle::explain::tableau::{LEGEND, rules_of};
-use oracle::explain::wording::count;
+use oracle::explain::wording::{count, in_thousands};
 use oracle::pattern::Pattern;
 use oracle::tableau::Tableau;
 use oracle::tableau::rules::Step;
@@ -52,7 +52,7 @@ pub fn drawing(pattern: &Pattern, formula: &Formula, tableau: &Tableau, conclusi
 fn summary(tableau: &Tableau, all: &Outlined) -> String {
     format!(
         "{} of {} taken, {}, {}; start name n{}. {LEGEND}.",
-        all.steps,
+        in_thousands(all.steps as u64),
         count(tableau.steps.len(), "step", "steps"),
         count(all.clashes, "clash", "clashes"),
         count(all.forks, "fork", "forks"),
