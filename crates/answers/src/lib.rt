@@ -1,4 +1,6 @@
 // What a linked program gets: one number, a packed finding. include/riser.h says how to take it apart.
+#![tactic(auto)]
+
 ghost use Rattle.std.specs.Prelude.{◌≡◌, ◌≤◌};
 ghost use Rattle.pattern.specs.File.Reading as reading;
 ghost use Rattle.model.specs.Judging as model-specs;

@@ -1,6 +1,8 @@
 // How the walk over a branch ends, what is counted on the way, and what is found where the walk over the
 // first branch ends so. The walk itself has the counts in an array and answers with a number, for the
 // reason that stands there; here is what they mean.
+#![tactic(auto)]
+
 ghost use Rattle.std.specs.Prelude.{◌≡◌, ◌<◌};
 ghost use Rattle.tableau.specs.declared.finding.Counts.{Counts};
 ghost use Rattle.tableau.specs.Judging.{finding_of};

@@ -1,4 +1,6 @@
 // A branch in lent bytes: its lines, eight bytes each, and the names that are fresh on it.
+#![tactic(auto)]
+
 mod fresh;
 mod stored;
 

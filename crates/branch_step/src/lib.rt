@@ -1,5 +1,7 @@
 // What a conclusion does to a branch: lines are added to it, or its straight part ends there. Line k of
 // the branch stands in block k of the area.
+#![tactic(auto)]
+
 ghost use Rattle.std.specs.Prelude.{◌≡◌, ◌+◌, ◌≤◌, length};
 ghost use Rattle.rules.specs.Sides.{sides};
 ghost use Rattle.branch_lines.specs.Stored.{put_line};

@@ -1,4 +1,6 @@
 // Checking the steps of a tableau: the walk over its branches, and what it finds.
+#![tactic(auto)]
+
 mod straight;
 mod walk;
 

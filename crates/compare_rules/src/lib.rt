@@ -1,5 +1,7 @@
 // Document 01's rules 8, 16, 20 and 22, of a comparison P as a whole, and the rules 21 and 23 of such a
 // line.
+#![tactic(auto)]
+
 ghost use Rattle.std.specs.Prelude.{◌≡◌, ◌&&◌};
 ghost use Rattle.pattern.specs.declared.types.Sign.{Sign};
 ghost use Rattle.pattern.specs.File.Types.{other_of};

@@ -1,4 +1,6 @@
 // The fields of an entry: the ranges of what they hold, for refusal 5, and where references go, for 6.
+#![tactic(auto)]
+
 ghost use Rattle.std.specs.Prelude.{◌≡◌};
 ghost use Rattle.pattern.specs.File.Fields.{each_field};
 ghost use Rattle.pattern.specs.File.Entries.{HasEntry};

@@ -1,5 +1,7 @@
 // Document 01's rules 1 and 4 to 7, of a has/lacks line P and the entry of its node, rule 21 of such a
 // line, and what the rule of any number gives for it; those of a node with two parts are in `part_rules`.
+#![tactic(auto)]
+
 ghost use Rattle.std.specs.Prelude.{◌≡◌, ◌+◌, ◌*◌, ◌≤◌, length};
 ghost use Rattle.pattern.specs.File.Entries.{HasEntry};
 ghost use Rattle.lines.specs.declared.line.Line.{Line};

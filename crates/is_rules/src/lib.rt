@@ -1,4 +1,6 @@
 // Document 01's rules 17, 18 and 19, of an is/is not line P, and the rules 21 and 23 of such a line.
+#![tactic(auto)]
+
 mod replaced;
 
 ghost use Rattle.std.specs.Prelude.{◌≡◌, List, ℕ, ◌+◌, ◌*◌, ◌≤◌, length};

@@ -1,6 +1,8 @@
 // Judging a model and judging a tableau. Each takes any bytes as pattern, as proposal and as working
 // area, and each contract says, beside its own finding, what that finding rules out of the other
 // judgement. `exports` has what programs in C and Rust link.
+#![tactic(auto)]
+
 pub mod exports;
 
 ghost use Rattle.std.specs.Prelude.{◌≡◌};

@@ -1,5 +1,7 @@
 // Document 01's rules 9 to 15, of a comparison P and the entry e of its left path; i is its left name,
 // and "the rest is kept".
+#![tactic(auto)]
+
 ghost use Rattle.std.specs.Prelude.{◌≡◌, ◌&&◌, ◌+◌, ◌*◌, ◌≤◌, length};
 ghost use Rattle.pattern.specs.File.Table.{same_kind};
 ghost use Rattle.lines.specs.declared.line.Line.{Line};

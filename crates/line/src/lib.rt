@@ -1,6 +1,8 @@
 // The line that a program prints, document 01's 'Bench program' and, of a typed pattern, document 02's
 // Job 7: filling a buffer with the line of a report, byte for byte. And a line that a program reads,
 // without its line feed.
+#![tactic(auto)]
+
 ghost use Rattle.std.specs.Prelude.{◌≡◌, ◌++◌, ◌+◌, ◌≤◌, length};
 ghost use Rattle.line.specs.Line.{number, line_of};
 ghost use Rattle.line.specs.Filling.{put_at, LineFilled};

@@ -1,6 +1,8 @@
 // The checks of a model file, document 01's refusals 10 to 14 and, where its edges must rise, document
 // 02's 28, in their order, and the names that it lists. Each check answers that it passed or the
 // refusal, and the first refusal decides.
+#![tactic(auto)]
+
 mod edges;
 mod refusal;
 

@@ -1,6 +1,8 @@
 // Judging a model: the refusals of document 01 in its order, among them document 02's 28 and behind
 // them its 27, and then met, with the lowest node and the number of nodes, or unmet; and how much working
 // area it wants.
+#![tactic(auto)]
+
 ghost use Rattle.std.specs.Prelude.{◌≡◌, length};
 ghost use Rattle.nodeset.specs.Set.{width, has};
 ghost use Rattle.pattern.specs.Checks.Finding.{found, ◌then◌};

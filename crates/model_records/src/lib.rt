@@ -1,5 +1,7 @@
 // The counts of a model file, where its records stand, and the fields of the records, read and, of its
 // edges, written. The readers and writers are for files that are long enough.
+#![tactic(auto)]
+
 ghost use Rattle.std.specs.Prelude.{◌≡◌, [], ◌∷◌, ◌+◌, ◌≤◌, length};
 ghost use Rattle.wire.specs.Blocks.{put_from};
 ghost use Rattle.pattern.specs.File.Types.{max_property, max_channel};

@@ -1,5 +1,7 @@
 // Where a pattern holds in the data model of a model file that passed its checks: the tables of node
 // sets that evaluation reads are made on the stack, of what the pattern uses.
+#![tactic(auto)]
+
 mod model;
 mod successors;
 mod values;

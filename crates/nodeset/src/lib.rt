@@ -1,4 +1,6 @@
 // Sets of nodes. Only this crate knows how a set is made of bits.
+#![tactic(auto)]
+
 ghost use Rattle.std.specs.Prelude.{◌≡◌, false, ◌+◌, ◌%◌, ◌≤◌, ◌<◌, length};
 ghost use Rattle.nodeset.specs.Set.{width, has, lowest_of, size_of, is_empty, empty_set, below, only, insert, insert_if, union, meet, minus, but_lowest, number_of, set_of};
 ghost use Rattle.nodeset.specs.Stored.{table_bytes, bytes_of, set_at, put};

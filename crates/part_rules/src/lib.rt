@@ -1,5 +1,7 @@
 // The rules of a has/lacks line P whose node has two parts: document 01's 2 and 3 of a both, and 24 and 25
 // of an either, of document 02's Job 6.
+#![tactic(auto)]
+
 ghost use Rattle.std.specs.Prelude.{◌≡◌, ◌&&◌};
 ghost use Rattle.pattern.specs.File.Table.{same_kind};
 ghost use Rattle.lines.specs.Lines.{has};

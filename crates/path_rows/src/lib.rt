@@ -1,5 +1,7 @@
 // The rows of a path, one for each node: its ends from that node. They are made from the rows of the
 // paths that it goes on by, and compared with those of another path.
+#![tactic(auto)]
+
 ghost use Rattle.std.specs.Prelude.{◌≡◌, true, ◌+◌, ◌≤◌, ◌<◌, length};
 ghost use Rattle.nodeset.specs.Set.{width};
 ghost use Rattle.nodeset.specs.Stored.{table_bytes, set_at};

@@ -1,5 +1,7 @@
 // Reading a pattern: document 01's refusals 1 to 8, in its order. Any bytes whatever give the number of
 // entries, or the first refusal that applies: each check answers that it passed or the refusal.
+#![tactic(auto)]
+
 ghost use Rattle.std.specs.Prelude.{◌≡◌, ◌+◌, ◌*◌, length};
 ghost use Rattle.pattern.specs.Checks.Range.{each_below};
 ghost use Rattle.pattern.specs.File.Entries.{HasEntry};

@@ -1,6 +1,8 @@
 // Runs the bench program on the folders of samples that samples.txt lists, and the typist on the texts
 // that texts.txt lists; docs/SAMPLES.md has their tables. Prints a line for each: its name in the list,
 // a colon and what the program prints.
+#![tactic(auto)]
+
 ghost use Rattle.std.specs.Prelude.{◌≤◌, length};
 ghost use Rattle.io.specs.Counts.{IsPrefixLen};
 

@@ -2,6 +2,8 @@
 // and the slots of the entries that passed are marked. An entry whose slot is unmarked is compared with
 // none; otherwise it is compared with every earlier one, so that even a pattern whose entries were made
 // to share slots takes hardly more time than without slots.
+#![tactic(auto)]
+
 ghost use Rattle.std.specs.Prelude.{◌≡◌, set};
 ghost use Rattle.wire.specs.Fields.{word32_at};
 ghost use Rattle.pattern.specs.File.Entries.{offset, HasEntry, same_bytes};

@@ -1,6 +1,8 @@
 // The line that the bench program prints of a pattern and a proposal, document 01's 'Bench program'. It
 // is proved to be the line of what judging finds, byte for byte; that it is written, and what was
 // read, is not. `typed` has the like of a typed pattern.
+#![tactic(auto)]
+
 pub mod typed;
 
 ghost use Rattle.std.specs.Prelude.{◌≡◌, length};

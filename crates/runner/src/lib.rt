@@ -1,6 +1,8 @@
 // Document 01's bench program on two files: it reads a pattern and a proposal, and writes the line of
 // what judging the proposal finds. The line is proved of the bytes that were read (`report`); what
 // reading and writing do is not. `typist` has the like of a typed pattern.
+#![tactic(auto)]
+
 pub mod typist;
 
 ghost use Rattle.io.specs.Counts.{IsPrefixLen};

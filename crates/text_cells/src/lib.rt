@@ -2,6 +2,8 @@
 // token first: so what follows an item of a row is there when the item comes, and what follows a brace
 // is shared by its two paths. A cell is a kind and three fields, each a number below 256 or, from 256
 // on, the cell of a part.
+#![tactic(auto)]
+
 mod letters;
 
 ghost use Rattle.std.specs.Prelude.{◌≡◌, [], ◌∷◌, ◌*◌, ◌≤◌, ◌<◌, length, take};

@@ -1,5 +1,7 @@
 // The entries of a typed pattern in the order of their first completion, from its cells: the parts of a
 // cell before it, in the order of its fields, each different entry once.
+#![tactic(auto)]
+
 mod placed;
 
 ghost use Rattle.std.specs.Prelude.{◌≡◌, ◌+◌, ◌-◌, ◌*◌, ◌≤◌, ◌<◌, length, get_or, take};

@@ -1,4 +1,6 @@
 // Typing a pattern, document 02's Job 7: a pattern file is written from a text.
+#![tactic(auto)]
+
 pub mod finding;
 
 ghost use Rattle.std.specs.Prelude.{◌≡◌, [], ◌*◌, ◌≤◌, length, take};

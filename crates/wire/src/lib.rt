@@ -1,5 +1,7 @@
 // Bytes that are lent: the mark at the front of a file and little-endian numbers of 16, 32 and 64 bits;
 // bytes and 16-bit numbers put at a place, and blocks of eight bytes in a table; clearing a working area.
+#![tactic(auto)]
+
 ghost use Rattle.std.specs.Prelude.{◌≡◌, ◌+◌, ◌*◌, ◌≤◌, ◌<◌, length, replicate};
 ghost use Rattle.wire.specs.Fields.{begins_with, word_at, word_bytes, word32_at, word64_at};
 ghost use Rattle.wire.specs.Blocks.{put_from};
