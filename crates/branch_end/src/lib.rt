@@ -14,7 +14,7 @@ use tableau::finding::{Closed, Counts, TableauFinding, TableauRefusal, WalkRefus
 
 // How the walk over a branch ends: it is closed, with the number of the next step and the counts; or
 // a refusal.
-#[derive(Drop)]
+#[derive(Clone, Copy)]
 pub enum BranchEnd {
     Closed(u16, Counts),
     Refused(WalkRefusal),

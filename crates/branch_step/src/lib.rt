@@ -17,7 +17,7 @@ use tableau::finding::WalkRefusal;
 
 // Where the straight part of a branch ends: at a clash or a fork, with the number of that step and of
 // the lines that the branch has at it, and of a fork the line of each side; or at a refusal.
-#[derive(Drop)]
+#[derive(Clone, Copy)]
 pub enum Stop {
     Clash(u16, u16),
     Fork(u16, u16, Line, Line),
@@ -25,7 +25,7 @@ pub enum Stop {
 }
 
 // What one step does: the branch has so many lines after it, or it stops there.
-#[derive(Drop)]
+#[derive(Clone, Copy)]
 pub enum Advance {
     Grown(u16),
     Stopped(Stop),

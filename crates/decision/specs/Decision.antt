@@ -5,7 +5,7 @@ use Rattle.std.specs.Prelude.{◌≡◌, refl, Bool, true, false, not, ◌&&◌,
 use Rattle.std.proofs.Common.{sym, ◌∙◌, ap, inl, inr, eqb-true, eq-eqb}
 use Rattle.std.proofs.Math.Bool.{or-true}
 use Rattle.std.proofs.lemmas.Bool.{false≢true}
-use Rattle.std.proofs.Math.Logic.{Iff·rfl}
+use Rattle.std.proofs.Math.Logic.Iff
 use Rattle.pattern.specs.declared.types.Comparison.{Comparison}
 use Rattle.pattern.specs.Checks.Tests.{and_is_true, or_is_true}
 use Rattle.pattern.specs.Checks.Range.{some_below, some_at, some_found}
@@ -95,7 +95,7 @@ module _ (F : Finite) (ok : Named F) where
 
     leads_decided : (α : PExp) (x y : NodeOf F)
         → (leads_test F α x.0 y.0 ≡ true) ↔ Leads (model_of F) (naming_of F ok) α x y
-    leads_decided (PExp.down a) x y = Iff·rfl
+    leads_decided (PExp.down a) x y = Iff.rfl
     leads_decided (PExp.jump i) x y = node_decided F (naming_of F ok i) y
     leads_decided (PExp.test φ) x y = both_decided _ _ (node_decided F x y) (holds_decided φ x)
     leads_decided (PExp.compose α β) x y =
@@ -104,13 +104,13 @@ module _ (F : Finite) (ok : Named F) where
     leads_decided (PExp.union α β) x y = either_decided _ _ (leads_decided α x y) (leads_decided β x y)
 
     pub holds_decided : (φ : NExp) (x : NodeOf F) → (holds_test F φ x.0 ≡ true) ↔ Holds (model_of F) (naming_of F ok) φ x
-    holds_decided (NExp.property p) x = Iff·rfl
+    holds_decided (NExp.property p) x = Iff.rfl
     holds_decided (NExp.name i) x = node_decided F (naming_of F ok i) x
     holds_decided (NExp.not φ) x = not_decided _ (holds_decided φ x)
     holds_decided (NExp.both φ ψ) x = both_decided _ _ (holds_decided φ x) (holds_decided ψ x)
     holds_decided (NExp.either φ ψ) x = either_decided _ _ (holds_decided φ x) (holds_decided ψ x)
     holds_decided (NExp.after a φ) x =
-        some_decided F (λ v. F.edge a x.0 v && holds_test F φ v) (λ y. both_decided _ _ Iff·rfl (holds_decided φ y))
+        some_decided F (λ v. F.edge a x.0 v && holds_test F φ v) (λ y. both_decided _ _ Iff.rfl (holds_decided φ y))
     holds_decided (NExp.compare c e α β) x =
         let ends : ℕ → ℕ → Bool
         = λ v w. leads_test F α x.0 v && leads_test F β x.0 w && compared c (eqb (F.value e v) (F.value e w)) in

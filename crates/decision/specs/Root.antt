@@ -2,7 +2,7 @@
 -- Assumes nothing.
 use Rattle.std.specs.Prelude.{◌≡◌, refl, Bool, true, false, ◌&&◌, ◌↔◌, List, ℕ, ◌-◌, ◌<◌, ltb}
 use Rattle.std.proofs.Common.{sym, subst, arith, ltb-true, ltb-false}
-use Rattle.std.proofs.Math.Logic.{Iff·symm, Iff·trans}
+use Rattle.std.proofs.Math.Logic.Iff
 use Rattle.pattern.specs.Checks.Tests.{same_tests}
 use Rattle.pattern.specs.Logic.Finite.{Finite, Named, model_of, naming_of, node_same}
 use Rattle.pattern.specs.File.Reading.{count_of}
@@ -23,7 +23,7 @@ unfolding root_holds
 root_holds_law bs F ok u t h = go (ltb u F.size) refl t h
   where
     go : (b : Bool) → ltb u F.size ≡ b → (t : Bool) → (t ≡ true) ↔ HoldsNode F ok (root_of bs) u → t ≡ b && holds_test F (root_of bs) u
-    go true l t h = same_tests t _ (Iff·trans h (Iff·symm (holds_node F ok (root_of bs) u (ltb-true u F.size l))))
+    go true l t h = same_tests t _ (Iff.trans h (Iff.symm (holds_node F ok (root_of bs) u (ltb-true u F.size l))))
     go false l true h = absurd (let r = h.0 refl in omega (arith, r.0, ltb-false u F.size l))
     go false l false h = refl
 

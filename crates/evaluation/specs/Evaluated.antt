@@ -2,7 +2,7 @@
 -- Assumes nothing.
 use Rattle.std.specs.Prelude.{◌≡◌, Bool, true, ◌↔◌, List, ℕ, ◌+◌, ◌≤◌, ◌<◌}
 use Rattle.std.proofs.Common.{◌∙◌, ap, subst, arith, lt_of_lt_of_le}
-use Rattle.std.proofs.Math.Logic.{Iff·trans}
+use Rattle.std.proofs.Math.Logic.Iff
 use Rattle.nodeset.specs.declared.NodeSet.{NodeSet}
 use Rattle.nodeset.specs.Members.{HasExactly}
 use Rattle.nodeset.specs.Set.{has, empty_set, insert_if, union, meet, minus}
@@ -131,7 +131,7 @@ module _ {bs table alike : List ℕ} {n : ℕ} (lent : Lent bs table alike n) (k
       let α' : Ends bs table alike n (entry_at bs k).y u s = rw same at α in
       let pair' : PairFound alike (entry_at bs k).x c s t b = rw same at pair in
       collected_next (ComparesIn w k c) u found b (lt_of_lt_of_le m lent.narrow)
-      (Iff·trans (pair' w.model (channel_rows (lent_valid lent) k l c kind w) (ends_inside w (entry_at bs k).y u m s α'))
+      (Iff.trans (pair' w.model (channel_rows (lent_valid lent) k l c kind w) (ends_inside w (entry_at bs k).y u m s α'))
       (pair_compares_in (lent_valid lent) k l c kind w u m s t α' (rw same at β)))
       (so_far w)
 

@@ -3,7 +3,7 @@
 use Rattle.std.specs.Prelude.{◌≡◌, refl, Bool, true, false, ◌&&◌, not, ◌↔◌, ◌⊎◌, List, ℕ, ◌<◌}
 use Rattle.std.proofs.Common.{sym, ◌∙◌, ap, subst, inl, inr}
 use Rattle.std.proofs.lemmas.Bool.{false≢true, not-true}
-use Rattle.std.proofs.Math.Logic.{Iff·trans}
+use Rattle.std.proofs.Math.Logic.Iff
 use Rattle.nodeset.specs.declared.NodeSet.{NodeSet}
 use Rattle.nodeset.specs.Members.{HasExactly}
 use Rattle.nodeset.specs.Set.{has, union, meet, minus, has_meet, has_minus}
@@ -119,7 +119,7 @@ module _ (F : Finite) (ok : Named F) {bs : List ℕ} {n : ℕ} (valid : Valid bs
   pub nodes_name : (entry_at bs k).kind ≡ Kind.Name → IsSet F (Holding F ok bs k) (set_at table (name_row (entry_at bs k).x))
   nodes_name kind =
       set_as F (Holding F ok bs k) (λ u. F.named (entry_at bs k).x ≡ u.0) (set_at table (name_row (entry_at bs k).x))
-      (λ u. Iff·trans (node_clause valid k l Kind.Name kind F ok refl u) (λ e. ap (λ (w : NodeOf F). w.0) e, λ e. node_same F e))
+      (λ u. Iff.trans (node_clause valid k l Kind.Name kind F ok refl u) (λ e. ap (λ (w : NodeOf F). w.0) e, λ e. node_same F e))
       (tabled.names (entry_at bs k).x (uses_its_name valid k l Kind.Name kind refl))
 
   pub nodes_not : (s : NodeSet) → (entry_at bs k).kind ≡ Kind.Not → IsSet F (Holding F ok bs (entry_at bs k).x) s
@@ -147,7 +147,7 @@ module _ (F : Finite) (ok : Named F) {bs : List ℕ} {n : ℕ} (valid : Valid bs
   -- "After holds where some successor has φ."
   pub nodes_after : (s r : NodeSet) → (entry_at bs k).kind ≡ Kind.After → IsSet F (Holding F ok bs (entry_at bs k).y) s
       → HasExactly (Before table F.size (entry_at bs k).x s) r → IsSet F (Holding F ok bs k) r
-  nodes_after s r kind set before u = Iff·trans (before u) (there, back)
+  nodes_after s r kind set before u = Iff.trans (before u) (there, back)
     where
       clause : (u : NodeOf F)
           → Holding F ok bs k u ↔ ((v : NodeOf F) × ((F.edge (entry_at bs k).x u.0 v.0 ≡ true) × Holding F ok bs (entry_at bs k).y v))

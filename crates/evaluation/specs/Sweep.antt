@@ -4,7 +4,7 @@
 use Rattle.std.specs.Prelude.{◌≡◌, refl, Bool, true, false, ◌||◌, ◌⊎◌, ◌↔◌, List, ℕ, suc, ◌+◌, ◌-◌, ◌≤◌, ◌<◌, length, replicate, eqb}
 use Rattle.std.proofs.Common.{sym, ◌∙◌, ap, subst, inl, inr, arith, eq-or-lt_of_le, le_of_suc-le-suc, lt_trans, lt-suc_self, not-suc-le-zero, lt_of_lt_of_le, le_trans, le_of_lt, eqb-true, eq-eqb, ne_eqb}
 use Rattle.std.proofs.lemmas.Bool.{false≢true, eqb-false}
-use Rattle.std.proofs.Math.Logic.{Iff·trans, Iff·symm}
+use Rattle.std.proofs.Math.Logic.Iff
 use Rattle.std.proofs.lemmas.List.{length-replicate}
 use Rattle.nodeset.specs.declared.NodeSet.{NodeSet}
 use Rattle.nodeset.specs.Set.{width, has, is_empty, lowest_of, only, union, meet, has_only, has_union, has_meet}
@@ -68,7 +68,7 @@ module _ (F : Finite) (ok : Named F) (bs : List ℕ) where
       record {
         all_inside = p.inside s.all_inside;
         ends_are = λ v.
-            Iff·trans (subst (λ (i : ℕ). Leading F ok bs r u v ↔ Reached before i v) whole (s.ends_are v)) (p.same_ends s.all_inside v);
+            Iff.trans (subst (λ (i : ℕ). Leading F ok bs r u v ↔ Reached before i v) whole (s.ends_are v)) (p.same_ends s.all_inside v);
       }
 
   -- at the end of a sweep the ends are the set at the end of path
@@ -177,7 +177,7 @@ module _ (F : Finite) (ok : Named F) (bs : List ℕ) where
     -- an entry from whose pending set nothing is reached
     keeps_nothing : (pending : List ℕ) (i : ℕ) → ((v : NodeOf F) → sort_at bs i ≡ Sort.Path → By (set_at pending i) i v → ⊥) → KeepsEnds i pending pending
     keeps_nothing pending i none =
-        record { inside = λ h. h; same_ends = λ h v. Iff·trans (reached_split pending i v) (drop v, λ r. inl r) }
+        record { inside = λ h. h; same_ends = λ h v. Iff.trans (reached_split pending i v) (drop v, λ r. inl r) }
       where
         drop : (v : NodeOf F) → Reached pending i v ⊎ ((sort_at bs i ≡ Sort.Path) × By (set_at pending i) i v) → Reached pending i v
         drop v (inl r) = r
@@ -197,7 +197,7 @@ module _ (F : Finite) (ok : Named F) (bs : List ℕ) where
         record {
           inside = λ h. add_inside pending r s long (in_s (h i)) h;
           same_ends = λ h v.
-              Iff·trans (reached_split pending i v) (Iff·trans (swap h v) (Iff·symm (reached_added pending r s long i earlier v)));
+              Iff.trans (reached_split pending i v) (Iff.trans (swap h v) (Iff.symm (reached_added pending r s long i earlier v)));
         }
       where
         swap : AllInside pending → (v : NodeOf F)
@@ -325,8 +325,8 @@ module _ (F : Finite) (ok : Named F) (bs : List ℕ) where
           record {
             inside = λ h. add_inside one (entry_at bs i).y mine long_y (h i) (add_inside pending (entry_at bs i).x mine long_x (h i) h);
             same_ends = λ h v.
-                Iff·trans (reached_split pending i v)
-                (Iff·trans (parts v) (Iff·symm (Iff·trans (reached_added one (entry_at bs i).y mine long_y i refs.1 v) (inner v))));
+                Iff.trans (reached_split pending i v)
+                (Iff.trans (parts v) (Iff.symm (Iff.trans (reached_added one (entry_at bs i).y mine long_y i refs.1 v) (inner v))));
           }
         where
           one : List ℕ

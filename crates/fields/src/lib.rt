@@ -15,7 +15,7 @@ use pattern::types::{
 
 // The tests that a field is put to: that its value is in range, for refusal 5, and that a reference
 // goes back to an entry of its sort, for 6.
-#[derive(Drop)]
+#[derive(Clone, Copy)]
 pub enum FieldTest {
     Range,
     Reference,

@@ -3,7 +3,7 @@
 use Rattle.std.specs.Prelude.{◌≡◌, refl, Bool, true, false, ◌⊎◌, ◌↔◌, List, ℕ, ◌+◌, ◌<◌}
 use Rattle.std.proofs.Common.{sym, ◌∙◌, ap, subst, inl, inr, le_of_lt, lt_trans}
 use Rattle.std.proofs.lemmas.Bool.{false≢true}
-use Rattle.std.proofs.Math.Logic.{Iff·trans}
+use Rattle.std.proofs.Math.Logic.Iff
 use Rattle.nodeset.specs.declared.NodeSet.{NodeSet}
 use Rattle.nodeset.specs.Set.{has}
 use Rattle.nodeset.specs.Stored.{set_at}
@@ -150,7 +150,7 @@ module _ {bs table alike : List ℕ} {n k : ℕ} {e : Entry} {kind : PathKind} (
       (β : (u : ℕ) → u < n → Ends bs table alike n e.y u (set_at rows (second + u))) (test : TestSet bs table alike n kind e.x held) where
     row_ends : (u : ℕ) → u < n → (s : NodeSet) → HasExactly (RowBy kind table rows e.x held first second u) s → Ends bs table alike n k u s
     row_ends u l s row w m v =
-        Iff·trans (row v)
+        Iff.trans (row v)
         (subst (λ (e' : Entry). RowBy kind table rows e'.x held first second u v ↔ ((b : v < w.model.size) × Leading w.model w.named bs k (u, m) (v, b))) (sym q.same)
         (go kind kind_is (subst (λ (e' : Entry). (u : ℕ) → u < n → Ends bs table alike n (other_path kind e'.x e'.y) u (set_at rows (first + u))) q.same α)
         (subst (λ (e' : Entry). (u : ℕ) → u < n → Ends bs table alike n e'.y u (set_at rows (second + u))) q.same β)

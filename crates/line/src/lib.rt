@@ -9,7 +9,7 @@ ghost use Rattle.line.specs.Filling.{put_at, LineFilled};
 ghost use Rattle.line.specs.LineFeed.{without_line_feed};
 
 // What the line that is printed says: its word and its numbers.
-#[derive(Drop)]
+#[derive(Clone, Copy)]
 pub enum Report {
     Closed(u16, u16, u16, u16),
     Met(u8, u8),

@@ -6,7 +6,7 @@ ghost use Rattle.lines.specs.Parts.{channel_at, with_left};
 use pattern::types::{Axis, Channel, Comparison, Name, Sign};
 
 // "i has or lacks φ"; φ is a node entry's number.
-#[derive(Drop)]
+#[derive(Clone, Copy)]
 pub struct HasLine {
     pub sign: Sign,
     pub name: Name,
@@ -14,7 +14,7 @@ pub struct HasLine {
 }
 
 // "i is or is not j".
-#[derive(Drop)]
+#[derive(Clone, Copy)]
 pub struct IsLine {
     pub sign: Sign,
     pub first: Name,
@@ -22,7 +22,7 @@ pub struct IsLine {
 }
 
 // "axis a leads from i to j (no sign)".
-#[derive(Drop)]
+#[derive(Clone, Copy)]
 pub struct EdgeLine {
     pub axis: Axis,
     pub from: Name,
@@ -30,7 +30,7 @@ pub struct EdgeLine {
 }
 
 // A side of a comparison, (i, α); α is a path reference.
-#[derive(Drop)]
+#[derive(Clone, Copy)]
 pub struct Side {
     pub name: Name,
     pub path: u8,
@@ -38,7 +38,7 @@ pub struct Side {
 
 // "a comparison, holding or barred, of same or differ on channel e between (i, α) and (j, β)"; it is
 // held where the sign is positive and barred where it is negative.
-#[derive(Drop)]
+#[derive(Clone, Copy)]
 pub struct CompareLine {
     pub sign: Sign,
     pub comparison: Comparison,
@@ -48,7 +48,7 @@ pub struct CompareLine {
 }
 
 // The form of a line, without its parts.
-#[derive(Drop)]
+#[derive(Clone, Copy)]
 pub enum Form {
     Has,
     Is,
@@ -56,7 +56,7 @@ pub enum Form {
     Compare,
 }
 
-#[derive(Drop)]
+#[derive(Clone, Copy)]
 pub enum Line {
     Has(HasLine),
     Is(IsLine),

@@ -4,25 +4,25 @@ ghost use Rattle.lines.specs.Views.{has_view, is_view, edge_view, compare_view};
 
 use crate::line::{CompareLine, EdgeLine, HasLine, IsLine, Line};
 
-#[derive(Drop)]
+#[derive(Clone, Copy)]
 pub enum HasView {
     Of(HasLine),
     Other,
 }
 
-#[derive(Drop)]
+#[derive(Clone, Copy)]
 pub enum IsView {
     Of(IsLine),
     Other,
 }
 
-#[derive(Drop)]
+#[derive(Clone, Copy)]
 pub enum EdgeView {
     Of(EdgeLine),
     Other,
 }
 
-#[derive(Drop)]
+#[derive(Clone, Copy)]
 pub enum CompareView {
     Of(CompareLine),
     Other,

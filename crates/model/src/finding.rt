@@ -7,7 +7,7 @@ use pattern::finding::PatternRefusal;
 
 // The refusals of judging a model: document 01's 1 to 8 of the pattern, 9 of the working area and 10 to
 // 14 of the model file, with document 02's 28, and its 27, which holds the name that isn't listed.
-#[derive(Drop)]
+#[derive(Clone, Copy)]
 pub enum JudgeRefusal {
     Pattern(PatternRefusal),
     Area,
@@ -43,7 +43,7 @@ impl JudgeRefusal {
 
 // What judging a model finds: the root holds at some node, with the lowest such node and their
 // number; it holds at none; or the first refusal.
-#[derive(Drop)]
+#[derive(Clone, Copy)]
 pub enum ModelFinding {
     Met(u8, u8),
     Unmet,

@@ -3,7 +3,7 @@ ghost use Rattle.std.specs.Prelude.{◌≡◌};
 ghost use Rattle.model_file.specs.Enums.{refusal_number, refusal_place};
 
 // Document 01's refusals 10 to 14 and document 02's 28; those that have a place hold the record's number.
-#[derive(Drop)]
+#[derive(Clone, Copy)]
 pub enum ModelRefusal {
     Mark,
     Version,
@@ -44,7 +44,7 @@ impl ModelRefusal {
 }
 
 // How a check came out.
-#[derive(Drop)]
+#[derive(Clone, Copy)]
 pub enum ModelCheck {
     Passed,
     Refused(ModelRefusal),

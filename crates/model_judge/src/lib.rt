@@ -26,7 +26,7 @@ use pattern_read::read;
 use slots::area::area_bytes;
 
 // How the checks of the model came out.
-#[derive(Drop)]
+#[derive(Clone, Copy)]
 enum JudgeCheck {
     Passed,
     Refused(JudgeRefusal),

@@ -6,7 +6,7 @@ use model_file::ModelRefusal;
 
 // The refusals: document 01's 10 to 14 of the old file, and document 02's 29, a destination that is
 // shorter than the new file.
-#[derive(Drop)]
+#[derive(Clone, Copy)]
 pub enum OrderRefusal {
     Model(ModelRefusal),
     Room,
@@ -35,7 +35,7 @@ impl OrderRefusal {
 }
 
 // The new file's length, or the first refusal.
-#[derive(Drop)]
+#[derive(Clone, Copy)]
 pub enum OrderFinding {
     Written(u16),
     Refused(OrderRefusal),

@@ -10,7 +10,7 @@ ghost use Rattle.model_records.specs.Contents.{has_property};
 
 // How the edges of a model file must stand: in any order, as document 01 has it, or rising, as document
 // 02 has it.
-#[derive(Drop)]
+#[derive(Clone, Copy)]
 pub enum Order {
     Any,
     Rising,

@@ -13,7 +13,7 @@ use pattern::entry::Entry;
 use pattern::names::bears_name;
 
 // A set of names, in two halves: those below NodeSet::WIDTH as they are, the others less NodeSet::WIDTH.
-#[derive(Drop)]
+#[derive(Clone, Copy)]
 pub struct NameSet {
     low: NodeSet,
     high: NodeSet,

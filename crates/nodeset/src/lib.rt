@@ -6,7 +6,7 @@ ghost use Rattle.nodeset.specs.Set.{width, has, lowest_of, size_of, is_empty, em
 ghost use Rattle.nodeset.specs.Stored.{table_bytes, bytes_of, set_at, put};
 
 // A set of the nodes below WIDTH: node u is in it where bit u is 1.
-#[derive(Drop)]
+#[derive(Clone, Copy)]
 pub struct NodeSet {
     bits: u64,
 }

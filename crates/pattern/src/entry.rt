@@ -5,7 +5,7 @@ ghost use Rattle.pattern.specs.File.Reading.{sort_at};
 
 use crate::table::{Kind, Sort};
 
-#[derive(Drop)]
+#[derive(Clone, Copy)]
 pub struct Entry {
     pub kind: Kind,
     pub x: u8,

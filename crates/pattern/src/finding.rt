@@ -3,7 +3,7 @@ ghost use Rattle.std.specs.Prelude.{◌≡◌};
 ghost use Rattle.pattern.specs.File.Reading.{refusal_number, refusal_place};
 
 // Document 01's refusals 1 to 8; those that have a place hold the entry's number.
-#[derive(Drop)]
+#[derive(Clone, Copy)]
 pub enum PatternRefusal {
     Mark,
     Version,
@@ -50,7 +50,7 @@ impl PatternRefusal {
 }
 
 // What reading a pattern finds: its number of entries, or the first refusal.
-#[derive(Drop)]
+#[derive(Clone, Copy)]
 pub enum PatternRead {
     Read(u8),
     Refused(PatternRefusal),

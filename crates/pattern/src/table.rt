@@ -6,7 +6,7 @@ ghost use Rattle.pattern.specs.File.Table.{kind_of, kind_number, same_kind, sort
 // The documents' kinds, in their words. In the words of the sources: `After` is the modal diamond, `Same`
 // and `Differ` are the data comparisons, `Jump` goes to a named node, `Fork` is the union of paths,
 // and each path kind carries the rest of its path. `Either` is a node, and the disjunction of two.
-#[derive(Drop)]
+#[derive(Clone, Copy)]
 pub enum Kind {
     Property,
     Name,
@@ -25,7 +25,7 @@ pub enum Kind {
 
 // Document 01's sorts of entries: nodes, which hold at a node or not, and paths, which lead from a node
 // to others.
-#[derive(Drop)]
+#[derive(Clone, Copy)]
 pub enum Sort {
     Node,
     Path,
@@ -33,7 +33,7 @@ pub enum Sort {
 }
 
 // What a field holds: one of the numbers of `types`, or a reference to a node entry or to a path.
-#[derive(Drop)]
+#[derive(Clone, Copy)]
 pub enum Field {
     Unused,
     Property,
@@ -45,7 +45,7 @@ pub enum Field {
 }
 
 // What the fields x, y and z of a kind hold.
-#[derive(Drop)]
+#[derive(Clone, Copy)]
 pub struct Form {
     pub x: Field,
     pub y: Field,

@@ -6,12 +6,12 @@ ghost use Rattle.pattern.specs.File.Types.{max_name, max_property, max_axis, max
 ghost use Rattle.pattern.specs.File.Made.{make, name_made, property_made, axis_made, channel_made};
 
 // A name, what source 000 calls a nominal: it stands for one node.
-#[derive(Drop)]
+#[derive(Clone, Copy)]
 pub struct Name {
     pub number: u8,
 }
 
-#[derive(Drop)]
+#[derive(Clone, Copy)]
 pub enum NameMade {
     Made(Name),
     OutOfRange,
@@ -32,12 +32,12 @@ impl Name {
 }
 
 // A property, what source 000 calls a propositional symbol: it labels any set of nodes.
-#[derive(Drop)]
+#[derive(Clone, Copy)]
 pub struct Property {
     pub number: u8,
 }
 
-#[derive(Drop)]
+#[derive(Clone, Copy)]
 pub enum PropertyMade {
     Made(Property),
     OutOfRange,
@@ -58,12 +58,12 @@ impl Property {
 }
 
 // An axis: one of the accessibility relations.
-#[derive(Drop)]
+#[derive(Clone, Copy)]
 pub struct Axis {
     pub number: u8,
 }
 
-#[derive(Drop)]
+#[derive(Clone, Copy)]
 pub enum AxisMade {
     Made(Axis),
     OutOfRange,
@@ -84,7 +84,7 @@ impl Axis {
 }
 
 // A channel: each node has a data value on each.
-#[derive(Drop)]
+#[derive(Clone, Copy)]
 pub enum Channel {
     C0,
     C1,
@@ -92,7 +92,7 @@ pub enum Channel {
     C3,
 }
 
-#[derive(Drop)]
+#[derive(Clone, Copy)]
 pub enum ChannelMade {
     Made(Channel),
     OutOfRange,
@@ -126,7 +126,7 @@ impl Channel {
 }
 
 // Whether a statement is made or denied: has or lacks, is or is not, holds or is barred.
-#[derive(Drop)]
+#[derive(Clone, Copy)]
 pub enum Sign {
     Positive,
     Negative,
@@ -144,7 +144,7 @@ impl Sign {
 }
 
 // The two comparisons of data values: equal, or unequal.
-#[derive(Drop)]
+#[derive(Clone, Copy)]
 pub enum Comparison {
     Same,
     Differ,

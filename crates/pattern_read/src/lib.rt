@@ -14,7 +14,7 @@ use pattern::entry::{Entry, sort_at};
 use pattern::finding::{PatternRead, PatternRefusal};
 use repeats::{SLOTS, mark, repeats_seen};
 
-#[derive(Drop)]
+#[derive(Clone, Copy)]
 enum PatternCheck {
     Passed,
     Refused(PatternRefusal),

@@ -42,7 +42,7 @@ fn name_of(name: &[u8], behind: &[u8], path: &mut [u8]) -> usize
 }
 
 // What a list names.
-#[derive(Drop)]
+#[derive(Clone, Copy)]
 enum Kind {
     Folders,
     Texts,

@@ -7,7 +7,7 @@ use pattern::table::Kind;
 use pattern::types::Comparison;
 
 // The node kinds; same and differ are one, with their comparison.
-#[derive(Drop)]
+#[derive(Clone, Copy)]
 pub enum NodeKind {
     Property,
     Name,
@@ -19,7 +19,7 @@ pub enum NodeKind {
     NoNode,
 }
 
-#[derive(Drop)]
+#[derive(Clone, Copy)]
 pub enum PathKind {
     Step,
     Jump,

@@ -14,7 +14,7 @@ pub const FILE_BYTES: usize = 1026;
 
 // What was made of a text: how many bytes the file has, none where the text is refused, and how many
 // the line.
-#[derive(Drop)]
+#[derive(Clone, Copy)]
 pub struct Typed {
     pub file: usize,
     pub line: usize,

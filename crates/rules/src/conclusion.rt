@@ -4,7 +4,7 @@ use pattern::types::Name;
 
 // One line or two, added in this order; two lines that want a fresh name; a fork, a line for each side;
 // or a clash.
-#[derive(Drop)]
+#[derive(Clone, Copy)]
 pub enum Conclusion {
     One(Line),
     Two(Line, Line),
@@ -14,7 +14,7 @@ pub enum Conclusion {
 }
 
 // What a rule makes of the lines P and Q and the argument: a conclusion, or they don't fit.
-#[derive(Drop)]
+#[derive(Clone, Copy)]
 pub enum Outcome {
     Fits(Conclusion),
     Unfit,

@@ -31,14 +31,14 @@ pub fn clash_if(fits: bool) -> Outcome
 }
 
 // The way that an axis line is gone: as its axis leads, or back.
-#[derive(Drop)]
+#[derive(Clone, Copy)]
 pub enum Direction {
     Along,
     Against,
 }
 
 // Where a line leads on an axis from a name.
-#[derive(Drop)]
+#[derive(Clone, Copy)]
 pub enum Arrival {
     At(Name),
     Nowhere,

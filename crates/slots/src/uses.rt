@@ -13,7 +13,7 @@ use pattern::table::{END, Field};
 pub const USES_BYTES: usize = END as usize + 1;
 
 // The last such entry, or the next from one on.
-#[derive(Drop)]
+#[derive(Clone, Copy)]
 enum Use {
     Last,
     Next,

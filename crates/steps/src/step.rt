@@ -5,7 +5,7 @@ ghost use Rattle.steps.specs.Steps.{step_at, refusal_number, refusal_place};
 use rules::conclusion::Conclusion;
 
 // Six bytes of a tableau file: "rule (one byte), lines P and Q (16 bits each), argument (one byte)".
-#[derive(Drop)]
+#[derive(Clone, Copy)]
 pub struct Step {
     pub rule: u8,
     pub p: u16,
@@ -32,7 +32,7 @@ impl Step {
 // Document 01's refusals of a step that go by its rule, each with the step's number: 19, rule unknown;
 // 20, a used line not on the branch or an unused field not zero; 21, lines or argument that don't fit;
 // 22, a name that isn't fresh.
-#[derive(Drop)]
+#[derive(Clone, Copy)]
 pub enum StepRefusal {
     Rule(u16),
     Field(u16),
@@ -66,7 +66,7 @@ impl StepRefusal {
     }
 }
 
-#[derive(Drop)]
+#[derive(Clone, Copy)]
 pub enum StepAnswer {
     Concluded(Conclusion),
     Refused(StepRefusal),

@@ -7,7 +7,7 @@ use steps::step::StepRefusal;
 
 // What is counted while steps are checked: steps that say clash, steps that fork their branch in two,
 // and the largest number of lines that a branch had at its clash.
-#[derive(Drop)]
+#[derive(Clone, Copy)]
 pub struct Counts {
     pub clashes: u16,
     pub forks: u16,
@@ -15,7 +15,7 @@ pub struct Counts {
 }
 
 // Document 01's `closed`: the steps, and the counts at the end.
-#[derive(Drop)]
+#[derive(Clone, Copy)]
 pub struct Closed {
     pub steps: u16,
     pub clashes: u16,
@@ -24,7 +24,7 @@ pub struct Closed {
 }
 
 // Document 01's refusals 15 to 18, of the file's first 8 bytes and its length.
-#[derive(Drop)]
+#[derive(Clone, Copy)]
 pub enum HeaderRefusal {
     Mark,
     Version,
@@ -47,7 +47,7 @@ impl HeaderRefusal {
 }
 
 // Document 01's refusals 19 to 26, each with the step's number; of 26 it is the number of steps.
-#[derive(Drop)]
+#[derive(Clone, Copy)]
 pub enum WalkRefusal {
     Step(StepRefusal),
     Lines(u16),
@@ -86,7 +86,7 @@ impl WalkRefusal {
 
 // Document 01's refusals of judging a tableau: 1 to 8 of the pattern, 9 of the working area, 15 to 18
 // of the header, 19 to 26 of the steps.
-#[derive(Drop)]
+#[derive(Clone, Copy)]
 pub enum TableauRefusal {
     Pattern(PatternRefusal),
     Area,
@@ -120,7 +120,7 @@ impl TableauRefusal {
     }
 }
 
-#[derive(Drop)]
+#[derive(Clone, Copy)]
 pub enum TableauFinding {
     Closed(Closed),
     Refused(TableauRefusal),

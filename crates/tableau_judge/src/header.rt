@@ -15,13 +15,13 @@ const MAX_STEPS: u16 = 4096;
 pub const HEADER: usize = 8;
 
 // The start name, and the number of the steps.
-#[derive(Drop)]
+#[derive(Clone, Copy)]
 pub struct Header {
     pub start: Name,
     pub steps: u16,
 }
 
-#[derive(Drop)]
+#[derive(Clone, Copy)]
 pub enum HeaderRead {
     Read(Header),
     Refused(HeaderRefusal),

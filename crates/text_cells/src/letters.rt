@@ -6,7 +6,7 @@ ghost use Rattle.text_cells.specs.Building.{node, path, made_by, marks, bar_mark
 
 // A cell, its kind and its fields; how many items it takes from the stack; and what is added there to
 // twice its own field.
-#[derive(Drop)]
+#[derive(Clone, Copy)]
 pub struct Made {
     pub takes: usize,
     pub tag: u16,
@@ -64,7 +64,7 @@ pub fn made_by(letter: u8, value: u16, a: u16, b: u16, c: u16) -> Made
 
 // What a letter that makes no cell puts on the stack: no item, one, which is the one under the other, or
 // both.
-#[derive(Drop)]
+#[derive(Clone, Copy)]
 pub struct Marks {
     pub puts: usize,
     pub under: u16,

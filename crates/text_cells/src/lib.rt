@@ -27,7 +27,7 @@ const MIDDLE: usize = 2 * TOKENS;
 const ITEMS: usize = 2 * MIDDLE + 3;
 
 // How far the stack goes, and how many cells there are.
-#[derive(Drop)]
+#[derive(Clone, Copy)]
 struct Built {
     at: usize,
     count: u16,

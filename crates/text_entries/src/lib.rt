@@ -20,14 +20,14 @@ const ENTRIES: u16 = 255;
 pub const ENTRY_BYTES: usize = 4 * ENTRIES as usize;
 
 // The fields of a cell: the first that is a part without a number, or the numbers of all three.
-#[derive(Drop)]
+#[derive(Clone, Copy)]
 enum Fields {
     Open(u16),
     Numbered(u8, u8, u8),
 }
 
 // How many entries there are, or that they would be over 255.
-#[derive(Drop)]
+#[derive(Clone, Copy)]
 pub enum Entries {
     Complete(u8),
     TooMany,

@@ -6,7 +6,7 @@ ghost use Rattle.wire.specs.Choice.{pick};
 ghost use Rattle.typed_text.specs.Machine.{number, digits, one_of, none, some, takes, node_takes, row_takes, all_optional, place_of};
 ghost use Rattle.text_tokens.specs.Stack.{wants, new_wants, taken, passable, grammar_of};
 
-#[derive(Drop)]
+#[derive(Clone, Copy)]
 pub enum Grammar {
     Whole,
     Fault(u16),
@@ -27,7 +27,7 @@ const SAME_DIFFER: u8 = 6;
 
 // New wants, the topmost first: the bytes from this place on. Those before it mean nothing: they are there
 // so that it is always five that are stored.
-#[derive(Drop)]
+#[derive(Clone, Copy)]
 struct Wants(usize, [u8; 5]);
 
 // In its place where a byte can't be taken; 5 is that of a byte which is taken and asks for nothing.

@@ -4,7 +4,7 @@ ghost use Rattle.text_tokens.specs.Reading.{token_at};
 
 use crate::token::{NextToken, token_at};
 
-#[derive(Drop)]
+#[derive(Clone, Copy)]
 pub struct TextReader<'a> {
     pub text: &'a [u8],
     pub at: usize,

@@ -4,7 +4,7 @@ ghost use Rattle.typed_text.specs.Text.{is_digit};
 ghost use Rattle.typed_text.specs.Spelled.{takes_number, capped};
 ghost use Rattle.text_tokens.specs.Reading.{digits_at, number_at, token_at};
 
-#[derive(Drop)]
+#[derive(Clone, Copy)]
 pub struct Token {
     pub letter: u8,
     // The number, 255 if it is larger: every limit is below that.
@@ -13,13 +13,13 @@ pub struct Token {
     pub after: usize,
 }
 
-#[derive(Drop)]
+#[derive(Clone, Copy)]
 pub enum NextToken {
     Token(Token),
     End,
 }
 
-#[derive(Drop)]
+#[derive(Clone, Copy)]
 struct Number {
     value: u8,
     after: usize,

@@ -10,7 +10,7 @@ use crate::reader::token_from;
 use crate::token::{NextToken, Token};
 use pattern::types::{Axis, Channel, Name, Property};
 
-#[derive(Drop)]
+#[derive(Clone, Copy)]
 pub enum Ranged {
     // How many tokens there are.
     Within(u16),

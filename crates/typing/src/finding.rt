@@ -5,7 +5,7 @@ ghost use Rattle.typing.specs.Typing.{refusal_number, refusal_place};
 // The refusals, document 02's 30 to 32: a text that is too long, or that leaves the grammar at a place;
 // a number out of range, at the place of its first digit; too many entries, or a destination that is
 // shorter than the file.
-#[derive(Drop)]
+#[derive(Clone, Copy)]
 pub enum TypeRefusal {
     Grammar(u16),
     Range(u16),
@@ -37,7 +37,7 @@ impl TypeRefusal {
 }
 
 // The file's length, or the first refusal.
-#[derive(Drop)]
+#[derive(Clone, Copy)]
 pub enum TypeFinding {
     Written(u16),
     Refused(TypeRefusal),

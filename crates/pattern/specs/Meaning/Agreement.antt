@@ -3,7 +3,7 @@
 -- Assumes nothing.
 use Rattle.std.specs.Prelude.{◌≡◌, refl, ◌↔◌, List, ℕ}
 use Rattle.std.proofs.Common.{sym, subst}
-use Rattle.std.proofs.Math.Logic.{Iff·rfl}
+use Rattle.std.proofs.Math.Logic.Iff
 use Rattle.pattern.specs.declared.table.Kind.{Kind}
 use Rattle.pattern.specs.declared.table.Sort.{Sort}
 use Rattle.pattern.specs.Logic.Syntax.{NExp, PExp, truth}
@@ -40,18 +40,18 @@ module _ (M : Model) (nom : Naming M) where
 
     node_agrees : (κ : Kind) → sort_of κ ≡ Sort.Node → (u : M.Node)
         → Holds M nom (node_expression κ x y z N P) u ↔ NodeMeans M nom HoldsBy LeadsBy κ x y z u
-    node_agrees Kind.Property s u = Iff·rfl
-    node_agrees Kind.Name s u = Iff·rfl
-    node_agrees Kind.Not s u = Iff·rfl
-    node_agrees Kind.Both s u = Iff·rfl
-    node_agrees Kind.After s u = Iff·rfl
-    node_agrees Kind.Same s u = Iff·rfl
-    node_agrees Kind.Differ s u = Iff·rfl
+    node_agrees Kind.Property s u = Iff.rfl
+    node_agrees Kind.Name s u = Iff.rfl
+    node_agrees Kind.Not s u = Iff.rfl
+    node_agrees Kind.Both s u = Iff.rfl
+    node_agrees Kind.After s u = Iff.rfl
+    node_agrees Kind.Same s u = Iff.rfl
+    node_agrees Kind.Differ s u = Iff.rfl
     node_agrees Kind.Step s u = absurd (path_no_node s)
     node_agrees Kind.Jump s u = absurd (path_no_node s)
     node_agrees Kind.Test s u = absurd (path_no_node s)
     node_agrees Kind.Fork s u = absurd (path_no_node s)
-    node_agrees Kind.Either s u = Iff·rfl
+    node_agrees Kind.Either s u = Iff.rfl
     node_agrees Kind.Unknown s u = absurd (neither_no_node s)
 
     path_agrees : (κ : Kind) → sort_of κ ≡ Sort.Path → (u v : M.Node)
@@ -63,11 +63,11 @@ module _ (M : Model) (nom : Naming M) where
     path_agrees Kind.After s u v = absurd (path_no_node (sym s))
     path_agrees Kind.Same s u v = absurd (path_no_node (sym s))
     path_agrees Kind.Differ s u v = absurd (path_no_node (sym s))
-    path_agrees Kind.Step s u v = Iff·rfl
+    path_agrees Kind.Step s u v = Iff.rfl
     path_agrees Kind.Jump s u v = (λ h. subst (λ (w : M.Node). LeadsBy y w v) (sym h.1.0) h.1.1, λ l. (nom x, (refl, l)))
     path_agrees Kind.Test s u v =
         (λ h. (h.1.0.1, subst (λ (w : M.Node). LeadsBy y w v) (sym h.1.0.0) h.1.1), λ h. (u, ((refl, h.0), h.1)))
-    path_agrees Kind.Fork s u v = Iff·rfl
+    path_agrees Kind.Fork s u v = Iff.rfl
     path_agrees Kind.Either s u v = absurd (path_no_node (sym s))
     path_agrees Kind.Unknown s u v = absurd (neither_no_path s)
 
