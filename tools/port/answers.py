@@ -298,7 +298,7 @@ def turn(path, data, own, clauses, module, common):
                 if y.startswith("◌"):
                     if y.strip("◌") in ops or "simp" in body or "rw" in body:
                         names.append(x)
-                elif y in words or any(w.startswith(y + ".") for w in words):
+                elif y == "[]" and "[]" in body or y in words or any(w.startswith(y + ".") for w in words):
                     names.append(x)
             if names:
                 out.append(f"use {m[1]}." + "{" + ", ".join(names) + "}")
