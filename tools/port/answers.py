@@ -19,6 +19,26 @@ import tempfile
 WORD = r"[^\s(){}\[\].,;:\"`]+"
 COMMON = "/opt/rattle/rattle/std/proofs/Common.antt"
 plain = lambda it: re.sub(r"-?_-?|-", "-", it)
+# Names that Rattle makes up for a step; the check finds what they say.
+MADE_UP = re.compile(r"\.(enum_told|known_told|self|shared_slice_known|items_fit)[^\s.()]*-\d")
+# Words that respell.py took for lemmas where they name a step.
+RESPELLED = {
+    "at-the-end": "at-end",
+    "bit-of-and": "bit-and",
+    "entry-stands": "entry-at",
+    "within-ranges": "in-range",
+    "node-is-within": "node-within",
+    "or-the-end": "or-end",
+    "put-from-at": "put-at",
+}
+
+
+def step_word(step):
+    step = plain(step)
+    number = re.search(r"\d*$", step)[0]
+    base = step[: len(step) - len(number)]
+    base = base[:-4] if base.endswith("-law") else RESPELLED.get(base, base)
+    return base + number
 
 
 def read(path):
@@ -72,7 +92,10 @@ class Function:
         self.places = {plain(p[0]): n for p, n in zip(data["places"], data["places_by_name"])}
         self.loops = {plain(old): (new, vars_) for (old, new), vars_ in data["loops"]}
         self.changed = {plain(l[0][0]): ch for l, ch in zip(data["loops"], data["changed"])}
-        self.data = data
+        self.arms = {}
+        for arm in data["arms"]:
+            for new, step, way in (arm[2] if arm else ()):
+                self.arms[(plain(step), *way)] = [arm[0], new]
 
     def need(self, old):
         old = plain(old)
@@ -113,7 +136,8 @@ def numbered(path, names):
 class Turner:
     def __init__(self, fn, own, clauses, said):
         self.fn, self.own, self.clauses, self.said = fn, own, clauses, said
-        self.contexts, self.ways = {"c"}, set()
+        self.contexts, self.ways, self.helpers = {"c"}, set(), {}
+        self.goal, self.place, self.lead = None, None, "c"
 
     def clauses_of(self, step):
         base = re.sub(r"\d+$", "", step)
@@ -137,7 +161,11 @@ class Turner:
             return ["requires"] + numbered(rest, self.own[0])
         if step in ("args", "ranges", "type_inv", "well_formed", "lifetimes"):
             return parts
-        new = self.fn.steps.get(plain(step))
+        for n in range(len(parts), 0, -1):
+            arm = self.fn.arms.get((plain(step), *rest[: n - 1]))
+            if arm and not arm[1].endswith("-own"):
+                return arm + rest[n - 1 :]
+        new = self.fn.steps.get(plain(step)) or self.fn.steps.get(step_word(step))
         if new is None:
             if plain(step) in self.fn.loops:
                 new = self.fn.loops[plain(step)][0]
@@ -167,14 +195,33 @@ class Turner:
                 break
             self.contexts.add(m[1])
             text = text[: m.start()] + text[m.end() :]
+        # let p = c.requires in: the way stands where the name stood
+        while True:
+            names = "|".join(sorted(map(re.escape, self.contexts), key=len, reverse=True))
+            m = re.search(r"let (%s) = ((?:%s)(?:\.[^\s(){}\[\].,;]+)*\.(?:pre|requires|ensures)(?:\.[01])*) in[ \n]?[ ]*" % (WORD, names), text)
+            if not m:
+                break
+            rest = re.sub(r"(?<![\w'.-])%s(?![\w'-])" % re.escape(m[1]), lambda q: m[2], text[m.end() :])
+            text = text[: m.start()] + rest
         names = "|".join(sorted(map(re.escape, self.contexts), key=len, reverse=True))
+        for h, place in self.helpers.items():
+            asked = f"(goal.at.{self.goal} {self.lead}).{place}"
+            if self.place == place:
+                asked = "c"
+            elif self.place:
+                asked = f"(goal.at.{self.place} c).{place}"
+            text = re.sub(r"(?<![\w'.-])%s (?:\((?:%s)(?:\.before)*\)|(?:%s)(?:\.before)*)(?![\w'.-])" % (re.escape(h), names, names), lambda m: f"{h} {asked}", text)
 
         def one(m):
+            if m[0].startswith("c).") or text[max(0, m.start() - 9) : m.start()].startswith("(goal.at."):
+                return m[0]
             parts = [p for p in m[2].split(".") if p]
             new = self.way(parts)
             return "c" + "".join("." + p for p in new)
 
-        return re.sub(r"(?<![\w'.-])(%s)((?:\.[^\s(){}\[\].,;:\"`]+)*)(?![\w'-])" % names, one, text)
+        text = re.sub(r"(?<![\w'.-])(%s)((?:\.[^\s(){}\[\].,;:\"`]+)*)(?![\w'-])" % names, one, text)
+        # a test of `!b` says what b is
+        return re.sub(r"not-(?:true|false) _ (c\.\S+?\.(?:true|false))(?![\w'.-])", r"\1", text)
 
 
 def turn(path, data, own, clauses, module, common):
@@ -207,6 +254,13 @@ def turn(path, data, own, clauses, module, common):
         m = b and re.search(r"^(?:abbrev )?(\S+) : (?:\(\w+ : )?tie\.\S+?\)? → tie\.\S+\n\1 (\w+) = \2((?:\.before)+)$", b, re.M)
         if m:
             ways.add(m[1])
+    helpers, places = {}, []
+    for b in bs:
+        n = name_of(b)
+        m = n and n not in ways and re.search(r"\(?\w* ?:? ?tie\.((?:After|Then|Else|Start|In|At|Past|Joined|Left)[^\s()]*)", b)
+        if m and not re.search(r": tie\.Need-", b):
+            helpers[n] = fn.places.get(plain(m[1]), m[1])
+            places.append(helpers[n])
     for b in bs:
         lines = b.split("\n")
         n = name_of(b)
@@ -245,7 +299,7 @@ def turn(path, data, own, clauses, module, common):
             continue
         m = re.search(r": tie\.Need-(\S+)", b)
         t = Turner(fn, own, clauses, said)
-        t.ways = ways
+        t.ways, t.helpers = ways, helpers
         if m:
             new = renamed.get(n)
             if not new:
@@ -255,26 +309,29 @@ def turn(path, data, own, clauses, module, common):
             if body.strip() in ("search rules", "λ i. search rules"):
                 continue
             ctx = [a for a in args if a != "κs"]
-            t.contexts = {ctx[-1]} if ctx else {"c"}
+            at = "c" if "c" in ctx or not ctx else ctx[0]
+            t.contexts, t.goal = {at}, new
+            t.lead = " ".join(["c" if a == at else a for a in ctx[: ctx.index(at) + 1]]) if ctx else "c"
             unfolding = re.findall(r"^(unfolding .*)$", "\n".join(rest), re.M)
             body = rename(t.body(body))
-            lead = " " + " ".join(["c" if a == ctx[-1] else a for a in ctx]) if ctx else ""
+            if MADE_UP.search(body):
+                continue
+            body = fields_named(new, body, own, clauses)
+            lead = " " + " ".join(["c" if a == at else a for a in ctx]) if ctx else ""
             answers.append("\n".join(comments + [f"pub {new} : goal.{new}"] + unfolding + [f"{new}{lead} ={body if body.startswith(chr(10)) or body.startswith(' ') else ' ' + body}"]))
             continue
         # a helper of its own
-        new_b = b
-        hs = re.findall(r"\((\w+) : tie\.(\S+?)\)", new_b)
-        for v, p in hs:
-            t.contexts.add(v)
-        first = re.search(r"^%s (\w+)" % re.escape(n), new_b, re.M)
-        if "tie." in new_b:
-            if not hs and first:
-                t.contexts.add(first[1])
-            new_b = re.sub(r"tie\.((?:After|Then|Else|Start|In|At|Past|Joined)[^\s()]*)", lambda q: "goal." + fn.places.get(plain(q[1]), q[1]), new_b)
-            keep = t.body(new_b)
-            answers.append(rename(keep))
+        if n in helpers:
+            first = re.search(r"^%s (\w+)" % re.escape(n), b, re.M)
+            v = re.search(r"\((\w+) : tie\.", b)
+            t.contexts = {v[1] if v else "c", first[1] if first else "c"}
+            t.place = helpers[n]
+            loops = "|".join(sorted(map(re.escape, inv_names), key=len, reverse=True))
+            new_b = re.sub(r"(tie\.[^\s()]+)((?: (?:%s))+)" % loops, r"\1", b) if inv_names else b
+            new_b = re.sub(r"tie\.((?:After|Then|Else|Start|In|At|Past|Joined|Left)[^\s()]*)", lambda q: fn.places.get(plain(q[1]), q[1]), new_b)
+            answers.append(rename(t.body(new_b)))
         else:
-            answers.append(new_b)
+            answers.append(b)
     if any("?" in s and not s.startswith("step") for s in said) or any(s.startswith("invariant") for s in said):
         return said, False
     own_helpers = [a for a in answers if not re.search(r": goal\.", a.split("\n")[-1]) and not re.search(r"^pub \S+ : goal\.", a, re.M)]
@@ -319,11 +376,60 @@ def turn(path, data, own, clauses, module, common):
     if answers:
         an_text = "\n\n".join(answers)
         lines = needed(used_lines, an_text)
+        if places:
+            lines.append(f"use {module}.Goals." + "{" + ", ".join(dict.fromkeys(places)) + "}")
         out = "\n".join([h for h in head if h.strip()] + lines + [f"use {module}.Goals as goal"]) + "\n\n" + an_text + "\n"
         open(os.path.join(folder, "Answers.antt"), "w", encoding="utf-8").write(out)
         written.append("Answers.antt")
     os.remove(path)
     return said, True
+
+
+def split_tuple(text):
+    """The parts of a tuple `(a, b)`, or nothing."""
+    text = text.strip()
+    if not (text.startswith("(") and text.endswith(")")):
+        return None
+    depth, parts, at = 0, [], 1
+    for i, ch in enumerate(text):
+        depth += ch in "([{"
+        depth -= ch in ")]}"
+        if depth == 0 and i < len(text) - 1:
+            return None
+        if ch == "," and depth == 1:
+            parts.append(text[at:i].strip())
+            at = i + 1
+    last = text[at:-1].strip()
+    return parts + [last] if last else parts
+
+
+def fields_named(goal, body, own, clauses):
+    """A tuple of clauses as a record with the clauses' names."""
+    m = re.match(r"(.*)-requires(-.*)?$", goal)
+    if m:
+        callee = m[1]
+        found = [w for w in clauses if callee == w or callee.startswith(w + "-") or callee.endswith("-" + w)]
+        names = clauses[max(found, key=len)][0] if found else []
+    elif goal.startswith("returns"):
+        names = own[1]
+    else:
+        return body
+    if len(names) < 2:
+        return body
+    cut = max(body.rfind(" in (\n"), body.rfind(" in\n"), body.rfind(" in ("))
+    head, last = "", body
+    while cut >= 0:
+        head, last = body[: cut + 3], body[cut + 3 :]
+        break
+    parts = split_tuple(last)
+    while parts and len(parts) < len(names):
+        more = split_tuple(parts[-1])
+        if not more:
+            return body
+        parts = parts[:-1] + more
+    if not parts or len(parts) != len(names):
+        return body
+    return head + " record {\n" + "".join(f"      {n} = {p};\n" for n, p in zip(names, parts)) + "    }"
 
 
 def fit_uses(uses, common):

@@ -1,0 +1,13 @@
+-- `relations::model::union_within` meets its contract: the rows of the members passed are gathered, and no more is wanted once `all` is.
+-- Assumes nothing.
+use Rattle.std.proofs.Common.{◌+◌}
+use Rattle.nodeset.specs.Set.{size_of}
+use Rattle.nodeset.specs.Stored.{set_at}
+use Rattle.relations.specs.Members.{Gathered}
+use Rattle.relations.proofs.model.union_within.Given as goal
+
+abbrev pub invariant-loop-all : goal.invariant-loop-all
+invariant-loop-all l = Gathered (λ u. set_at l.rows (l.first + u)) l.initial.rest l.rest l.sum
+
+abbrev pub decreases-loop-all : goal.decreases-loop-all
+decreases-loop-all l = size_of l.rest
