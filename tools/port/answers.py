@@ -501,7 +501,7 @@ def main(crates):
             f = sub.split("/")[-1].lstrip("+")
             module = f"Rattle.{crate}.proofs.{sub.replace('/', '.')}"
             try:
-                what, done = turn(path, names[key], own.get(f, ([], [])), clauses, module, common)
+                what, done = turn(path, names[key], own.get(f, ([], [])), {**clauses, **own}, module, common)
             except Exception as e:  # noqa: BLE001
                 what, done = [f"{type(e).__name__}: {e}"], False
             for w in what:

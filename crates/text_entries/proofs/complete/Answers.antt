@@ -1,6 +1,6 @@
 -- `text_entries::complete` meets its contract: what lies on the stack completes to the root's entries, step by step (`Stack`).
 -- Assumes nothing.
-use Rattle.std.proofs.Common.{◌≡◌, sym, ap, subst, ◌∙◌, ◌+◌, ◌-◌, ◌*◌, ◌≤◌, arith, List, lt-ltb, le-ltb, length, take, take_all}
+use Rattle.std.proofs.Common.{◌≡◌, sym, ap, subst, ◌∙◌, ◌-◌, ◌≤◌, arith, List, lt-ltb, le-ltb, length, take, take_all}
 use Rattle.wire.specs.Onto.{onto}
 use Rattle.typed_file.specs.Entries.{Entry, entries_of, entry_bytes}
 use Rattle.text_entries.specs.declared.Entries.{Entries}
@@ -73,10 +73,10 @@ returns-then-number-eq-ENTRIES c =
     let l = c.loop-at in
     let g = l.invariant.1.1 in
     let full = full_step c.args.cells.now c.args.entries.now l.invariant.0 c.requires.entries_len l.numbers l.stack l.entries l.at l.n g c.loop-at-test.true c.in-Numbered.x c.in-Numbered.y c.in-Numbered.z (sym c.fields_of.ensures ∙ c.in-Numbered.is)
-    c.kind_of.result c.place-number.result c.place-number.new.0 c.kind_of.ensures c.place-number.ensures.0 c.place-number.ensures.1 c.if-number-eq-ENTRIES.true in record {
+    c.kind_of.result c.place-number.result c.place-number.new.entries c.kind_of.ensures c.place-number.ensures.number c.place-number.ensures.entries c.if-number-eq-ENTRIES.true in record {
       answer = λ t is. subst (λ (u : Tree). Entries.TooMany ≡ counted_as (length (entries_of u))) (cell_once l.invariant.0 t c.args.cells.now _ l.invariant.1.0 is)
           (rw (lt-ltb 255 (length (entries_of l.invariant.0)) full.0));
-      bytes = λ t is. subst (λ (u : Tree). c.place-number.new.0 ≡ onto (entry_bytes (take 255 (entries_of u))) c.args.entries.now)
+      bytes = λ t is. subst (λ (u : Tree). c.place-number.new.entries ≡ onto (entry_bytes (take 255 (entries_of u))) c.args.entries.now)
           (cell_once l.invariant.0 t c.args.cells.now _ l.invariant.1.0 is) full.1;
     }
 
@@ -88,7 +88,7 @@ overflow_add-numbers c =
     let l = c.loop-at in
     let g = l.invariant.1.1 in
     let few = few_step c.args.cells.now c.args.entries.now l.invariant.0 c.requires.entries_len l.numbers l.stack l.entries l.at l.n g c.loop-at-test.true c.in-Numbered.x c.in-Numbered.y c.in-Numbered.z (sym c.fields_of.ensures ∙ c.in-Numbered.is)
-    c.kind_of.result c.place-number.result c.place-number.new.0 c.kind_of.ensures c.place-number.ensures.0 c.place-number.ensures.1 c.if-number-eq-ENTRIES.false in
+    c.kind_of.result c.place-number.result c.place-number.new.entries c.kind_of.ensures c.place-number.ensures.number c.place-number.ensures.entries c.if-number-eq-ENTRIES.false in
     omega (arith, few)
 
 pub overflow_cast-numbers : goal.overflow_cast-numbers
@@ -96,7 +96,7 @@ overflow_cast-numbers c =
     let l = c.loop-at in
     let g = l.invariant.1.1 in
     let few = few_step c.args.cells.now c.args.entries.now l.invariant.0 c.requires.entries_len l.numbers l.stack l.entries l.at l.n g c.loop-at-test.true c.in-Numbered.x c.in-Numbered.y c.in-Numbered.z (sym c.fields_of.ensures ∙ c.in-Numbered.is)
-    c.kind_of.result c.place-number.result c.place-number.new.0 c.kind_of.ensures c.place-number.ensures.0 c.place-number.ensures.1 c.if-number-eq-ENTRIES.false in
+    c.kind_of.result c.place-number.result c.place-number.new.entries c.kind_of.ensures c.place-number.ensures.number c.place-number.ensures.entries c.if-number-eq-ENTRIES.false in
     omega (arith, few)
 
 pub overflow_cast-numbers-in-Numbered : goal.overflow_cast-numbers-in-Numbered
@@ -121,7 +121,7 @@ loop-at-smaller c =
     let l = c.loop-at in
     let g = l.invariant.1.1 in
     let done = placed_step c.args.cells.now c.args.entries.now l.invariant.0 c.requires.entries_len l.numbers l.stack l.entries l.at l.n g c.loop-at-test.true c.in-Numbered.x c.in-Numbered.y c.in-Numbered.z (sym c.fields_of.ensures ∙ c.in-Numbered.is)
-    c.kind_of.result c.place-number.result c.place-number.new.0 c.kind_of.ensures c.place-number.ensures.0 c.place-number.ensures.1 _ c.count_after-n.ensures c.if-number-eq-ENTRIES.false in
+    c.kind_of.result c.place-number.result c.place-number.new.entries c.kind_of.ensures c.place-number.ensures.number c.place-number.ensures.entries _ c.count_after-n.ensures c.if-number-eq-ENTRIES.false in
     omega (arith, done.1, c.loop-at-test.true)
 
 pub loop-at-preserved : goal.loop-at-preserved
@@ -132,7 +132,7 @@ loop-at-preserved c =
       (
         l.invariant.1.0,
         (placed_step c.args.cells.now c.args.entries.now l.invariant.0 c.requires.entries_len l.numbers l.stack l.entries l.at l.n g c.loop-at-test.true c.in-Numbered.x c.in-Numbered.y c.in-Numbered.z (sym c.fields_of.ensures ∙ c.in-Numbered.is)
-            c.kind_of.result c.place-number.result c.place-number.new.0 c.kind_of.ensures c.place-number.ensures.0 c.place-number.ensures.1 _ c.count_after-n.ensures c.if-number-eq-ENTRIES.false).0,
+            c.kind_of.result c.place-number.result c.place-number.new.entries c.kind_of.ensures c.place-number.ensures.number c.place-number.ensures.entries _ c.count_after-n.ensures c.if-number-eq-ENTRIES.false).0,
       ),
     )
 
