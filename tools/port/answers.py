@@ -93,6 +93,9 @@ class Function:
         self.loops = {plain(old): (new, vars_) for (old, new), vars_ in data["loops"]}
         self.changed = {plain(l[0][0]): ch for l, ch in zip(data["loops"], data["changed"])}
         self.arms = {}
+        for place in data["typed"]:
+            for variable, step in place:
+                self.arms[(plain(step), "given")] = ["type_inv", variable]
         for arm in data["arms"]:
             for new, step, way in (arm[2] if arm else ()):
                 self.arms[(plain(step), *way)] = [arm[0], new]
@@ -159,6 +162,8 @@ class Turner:
         step, rest = parts[0], parts[1:]
         if step in ("pre", "requires"):
             return ["requires"] + numbered(rest, self.own[0])
+        if step in ("well-formed", "type-inv"):
+            return [step.replace("-", "_")] + rest
         if step in ("args", "ranges", "type_inv", "well_formed", "lifetimes"):
             return parts
         for n in range(len(parts), 0, -1):
@@ -190,11 +195,11 @@ class Turner:
         # let s = c.before.before in
         while True:
             names = "|".join(sorted(map(re.escape, self.contexts), key=len, reverse=True))
-            m = re.search(r"let (%s) = \(?(?:%s)((?:\.before)*)\)? in[ \n]?[ ]*" % (WORD, names), text)
+            m = re.search(r"let (%s) = \(?(%s)((?:\.before)*)\)? in[ \n]?[ ]*" % (WORD, names), text)
             if not m:
                 break
-            self.contexts.add(m[1])
-            text = text[: m.start()] + text[m.end() :]
+            rest = re.sub(r"(?<![\w'.-])%s(?![\w'-])" % re.escape(m[1]), lambda q: m[2], text[m.end() :])
+            text = text[: m.start()] + rest
         # let p = c.requires in: the way stands where the name stood
         while True:
             names = "|".join(sorted(map(re.escape, self.contexts), key=len, reverse=True))
@@ -220,6 +225,7 @@ class Turner:
             return "c" + "".join("." + p for p in new)
 
         text = re.sub(r"(?<![\w'.-])(%s)((?:\.[^\s(){}\[\].,;:\"`]+)*)(?![\w'-])" % names, one, text)
+        text = re.sub(r"(\.in_default(?:-[\w-]*)?)\.rest", r"\1.in_default-own.rest", text)
         # a test of `!b` says what b is
         return re.sub(r"not-(?:true|false) _ (c\.\S+?\.(?:true|false))(?![\w'.-])", r"\1", text)
 
@@ -238,8 +244,8 @@ def turn(path, data, own, clauses, module, common):
             new = fn.need(m[1])
             if new:
                 renamed[n] = new
-            else:
-                said.append(f"goal {m[1]}?")
+            elif not re.search(r"= search rules$", b):
+                said.append(f"goal {m[1]} is no longer there")
         if re.search(r": tie\.(invariant|decreases)-", b):
             inv_names.add(n)
 
@@ -306,7 +312,8 @@ def turn(path, data, own, clauses, module, common):
                 continue
             d = re.search(r"^%s((?: [^\s=]+)*) =(?= |\n)(.*)" % re.escape(n), "\n".join(rest), re.M | re.S)
             args, body = d[1].split(), d[2]
-            if body.strip() in ("search rules", "λ i. search rules"):
+            cited = any(re.search(r"(?<![\w'.-])%s(?![\w'-])" % re.escape(n), x) for x in bs if x is not b and not re.search(r": \{M : Type 1\}", x))
+            if body.strip() == "search rules" and not cited:
                 continue
             ctx = [a for a in args if a != "κs"]
             at = "c" if "c" in ctx or not ctx else ctx[0]
@@ -332,7 +339,7 @@ def turn(path, data, own, clauses, module, common):
             answers.append(rename(t.body(new_b)))
         else:
             answers.append(b)
-    if any("?" in s and not s.startswith("step") for s in said) or any(s.startswith("invariant") for s in said):
+    if any(s.startswith(("invariant", "loop")) for s in said):
         return said, False
     own_helpers = [a for a in answers if not re.search(r": goal\.", a.split("\n")[-1]) and not re.search(r"^pub \S+ : goal\.", a, re.M)]
     folder = os.path.dirname(path)

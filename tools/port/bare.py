@@ -1,5 +1,5 @@
 #!/usr/bin/env python3
-"""Where a function's proof fails, tries it without its Answers.antt; where that fails too, puts the answers back.
+"""Where a function's proof fails, tries it without the answers that fail, and then without its Answers.antt; where that fails too, puts them back.
 
 usage: python3 tools/port/bare.py CRATE..     at the top of the repository
 """
@@ -7,19 +7,16 @@ usage: python3 tools/port/bare.py CRATE..     at the top of the repository
 import glob
 import os
 import re
-import shutil
 import subprocess
 import sys
-import tempfile
+
+sys.path.insert(0, os.path.dirname(os.path.realpath(__file__)))
+from answers import blocks, name_of, read  # noqa: E402
 
 
 def check(here):
     r = subprocess.run(["rt", "check"], cwd=here, capture_output=True, text=True)
     return r.stdout + r.stderr
-
-
-def open_functions(said):
-    return re.findall(r"^fn (\S+): (?:not proved|no proof: (?!it calls))", said, re.M)
 
 
 def folder_of(here, name):
@@ -30,17 +27,47 @@ def folder_of(here, name):
             return path
 
 
+def open_folders(here, said):
+    names = re.findall(r"^fn (\S+): (?:not proved|no proof: (?!it calls))", said, re.M)
+    return {f for f in (folder_of(here, n) for n in names) if f and os.path.exists(f + "/Answers.antt")}
+
+
+def write(path, text):
+    if text is None:
+        if os.path.exists(path):
+            os.remove(path)
+    else:
+        os.makedirs(os.path.dirname(path), exist_ok=True)
+        with open(path, "w", encoding="utf-8") as f:
+            f.write(text)
+
+
 for crate in sys.argv[1:]:
     here = f"crates/{crate}"
-    folders = [f for f in (folder_of(here, n) for n in open_functions(check(here))) if f and os.path.exists(f + "/Answers.antt")]
-    with tempfile.TemporaryDirectory() as d:
-        for i, f in enumerate(folders):
-            shutil.move(f + "/Answers.antt", f"{d}/{i}")
-        still = {folder_of(here, n) for n in open_functions(check(here))} if folders else set()
-        for i, f in enumerate(folders):
-            if f in still or not os.path.isdir(f) and f in still:
-                shutil.move(f"{d}/{i}", f + "/Answers.antt")
-            else:
-                print(f"{f}: needs no answers")
-                if os.path.isdir(f) and not os.listdir(f):
-                    os.rmdir(f)
+    said = check(here)
+    folders = open_folders(here, said)
+    was = {f: read(f + "/Answers.antt") for f in folders}
+    for f in folders:
+        short = os.path.relpath(f, here)
+        failed = set(re.findall(r"^\./%s/Answers\.antt:\S+ (?:error|note): `([^`]+)`" % re.escape(short), said, re.M))
+        failed |= set(re.findall(r"^\./%s/Answers\.antt:.*\(in `([^`]+)`\)" % re.escape(short), said, re.M))
+        keep = [b for b in blocks(was[f]) if name_of(b) not in failed]
+        write(f + "/Answers.antt", "\n\n".join(keep) + "\n" if any(name_of(b) for b in keep) else None)
+    said = check(here) if folders else ""
+    still = {f for f in folders if re.search(r"^fn %s::\S*: (?:not proved|no proof: (?!it calls))" % crate, said, re.M) and f in {folder_of(here, n) for n in re.findall(r"^fn (\S+): (?:not proved|no proof: (?!it calls))", said, re.M)}}
+    for f in folders - still:
+        print(f"{f}: proved without the answers that failed")
+    for f in still:
+        write(f + "/Answers.antt", None)
+    said = check(here) if still else ""
+    again = {folder_of(here, n) or n for n in re.findall(r"^fn (\S+): (?:not proved|no proof: (?!it calls))", said, re.M)}
+    for f in still:
+        name = f"{crate}::" + os.path.relpath(f, here + "/proofs").replace("/", "::").replace("+", "")
+        if f in again or name in again:
+            write(f + "/Answers.antt", was[f])
+            print(f"{f}: open")
+        else:
+            print(f"{f}: needs no answers")
+    for f in folders:
+        if os.path.isdir(f) and not os.listdir(f):
+            os.rmdir(f)

@@ -27,7 +27,9 @@ fn put(text: &[u8], buf: &mut [u8], at: usize) -> usize
     requires { at + length text.now ≤ length buf.old }
     ensures { (result ≡ at + length text.now) × (buf.new ≡ put_at buf.old at text.now) }
 {
-    at + bytes::copy(text, &mut buf[at..])
+    let end = at + text.len();
+    buf[at..end].copy_from_slice(text);
+    end
 }
 
 // Puts a space and the number into the buffer from place at on, and answers the place behind them.

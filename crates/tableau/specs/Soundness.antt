@@ -2,10 +2,11 @@
 -- Assumes nothing.
 use Rattle.std.proofs.Common.{sym, arith}
 use Rattle.std.specs.Prelude.{List, ℕ, ◌-◌}
-use Rattle.pattern.specs.Logic.Semantics.{Model, Naming}
+use Rattle.pattern.specs.Logic.Semantics.{Model, Naming, Holds}
 use Rattle.pattern.specs.Logic.Finite.{model_of, naming_of}
 use Rattle.pattern.specs.File.Reading.{count_of}
 use Rattle.pattern.specs.File.Valid.{Valid}
+use Rattle.pattern.specs.Meaning.Expression.{root_of}
 use Rattle.lines.specs.declared.line.Line.{Line}
 use Rattle.steps.specs.declared.step.Step.{Step}
 use Rattle.lines.specs.Formed.{IsNode, AllFormed, formed_append}
@@ -37,17 +38,22 @@ module _ {bs : List ℕ} {n : ℕ} (ok : Valid bs n) (M : Model) where
       each_refuted nom e formed each.1 so,
     )
 
--- A closed tableau excludes the root in every data model, under every naming. The start name isn't used in the pattern, so that it may be that
--- of the node.
-pub excludes : {bs ts : List ℕ} {size : ℕ} {c : Closed} → Closure bs ts size c → ExcludedEverywhere bs
-excludes {bs} {ts} closure M nom x holds =
+-- A closed tableau excludes the root: over every abstract data model, of whatever nodes, and every naming. The start name isn't used in the
+-- pattern, so that it may be that of the node.
+pub excludes : {bs ts : List ℕ} {size : ℕ} {c : Closed} → Closure bs ts size c → (M : Model) (nom : Naming M) (u : M.Node)
+    → Holds M nom (root_of bs) u → ⊥
+excludes {bs} {ts} closure M nom u holds =
     let i = start_of ts in
     let ok = closure.pattern_valid in
     let root = count_of bs - 1 in
     let node : IsNode bs (count_of bs) root = (omega (arith, ok.header.some_entry), ok.root_node) in
-    let starts = moved_holds ok M nom i x closure.header_valid.start_unused root node (sym (renamed_same M nom i x)) holds in
-    sound ok M (renamed M nom i x) closure.closes (node, tt) (starts, tt)
+    let starts = moved_holds ok M nom i u closure.header_valid.start_unused root node (sym (renamed_same M nom i u)) holds in
+    sound ok M (renamed M nom i u) closure.closes (node, tt) (starts, tt)
 
 -- what is excluded everywhere is excluded in the finite ones
 pub excluded_finite : (bs : List ℕ) → ExcludedEverywhere bs → Excluded bs
 excluded_finite bs everywhere F ok x = everywhere (model_of F) (naming_of F ok) x
+
+-- a closed tableau shows that no finite data model, of any size, has a node where the root holds
+pub excludes_finite : {bs ts : List ℕ} {size : ℕ} {c : Closed} → Closure bs ts size c → Excluded bs
+excludes_finite closure = λ F ok x. excludes closure (model_of F) (naming_of F ok) x

@@ -41,8 +41,8 @@ module _ (M : Model) (nom : Naming M) where
     there : (u v : M.Node) → Leads M nom α u v → Leads M nom β u v
     back : (u v : M.Node) → Leads M nom β u v → Leads M nom α u v
 
-  infixr 20 ◌and-so◌
-  ◌and-so◌ : {α β γ : PExp} → SamePath α β → SamePath β γ → SamePath α γ
+  infixr 20 ◌and_so◌
+  ◌and_so◌ : {α β γ : PExp} → SamePath α β → SamePath β γ → SamePath α γ
   p and_so q = record { there = λ u v h. q.there u v (p.there u v h); back = λ u v h. p.back u v (q.back u v h) }
 
   -- ---- what is made of the same is the same

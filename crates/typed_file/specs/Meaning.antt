@@ -5,6 +5,7 @@ use Rattle.std.proofs.Common.{◌∙◌, ap, ap₂, inl, arith}
 use Rattle.pattern.specs.declared.types.Comparison.{Comparison}
 use Rattle.pattern.specs.declared.entry.Entry as pattern
 use Rattle.pattern.specs.Checks.Finding.{passes}
+use Rattle.pattern.specs.Logic.Finite.{Finite, Named, NodeOf, model_of, naming_of}
 use Rattle.pattern.specs.Logic.Syntax.{NExp, PExp}
 use Rattle.pattern.specs.Logic.Semantics.{Model, Naming, Holds}
 use Rattle.pattern.specs.File.Table.{end_of_path, kind_of}
@@ -91,3 +92,8 @@ module _ (t : NodeText) (within_ranges : range_check (tokens_of t) ≡ passes) (
   file_means M nom u =
       let same = node_same M nom t in
       rw root_read (same.there u, same.back u)
+
+  -- so in every finite model
+  pub file_means_finite : (F : Finite) (ok : Named F) (u : NodeOf F)
+      → Holds (model_of F) (naming_of F ok) (root_of (file_of (entries_of (node_tree t)))) u ↔ Holds (model_of F) (naming_of F ok) (node_means t) u
+  file_means_finite F ok u = file_means (model_of F) (naming_of F ok) u

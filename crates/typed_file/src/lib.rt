@@ -2,4 +2,3 @@
 // completion, that it is a valid pattern, and that it means what the text does. Definitions and laws,
 // without code.
 #![tactic(auto)]
-

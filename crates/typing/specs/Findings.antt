@@ -3,7 +3,7 @@
 use Rattle.std.specs.Prelude.{◌≡◌, refl, Bool, true, false, ◌||◌, ◌↔◌, List, [], ◌∷◌, ℕ, zero, suc, ◌+◌, ◌-◌, ◌≤◌, ◌<◌, ltb, length, take}
 use Rattle.std.proofs.Common.{sym, ap, subst, ◌∙◌, inl, inr, arith, lt-ltb, le-ltb, ltb-true, ltb-false, length-append}
 use Rattle.wire.specs.Onto.{onto, take_onto}
-use Rattle.pattern.specs.Logic.Semantics.{Holds}
+use Rattle.pattern.specs.Logic.Semantics.{Model, Naming, Holds}
 use Rattle.pattern.specs.Logic.Finite.{model_of, naming_of}
 use Rattle.pattern.specs.Checks.Finding.{Finding, found, refused, Check, passes, refuses, refuses_if, ◌then◌, unless, onward, written, destination_after}
 use Rattle.pattern.specs.File.Entries.{max_entries}
@@ -259,6 +259,22 @@ module _ (xs lent : List ℕ) (f : Finding ℕ) (left : List ℕ) (finding : f �
 -- what is promised of finding and destination says so of every data model
 pub typed_everywhere : {xs lent left : List ℕ} {f : Finding ℕ} → TypePromise xs lent f left → TypedEverywhere xs f left
 typed_everywhere {xs} {lent} {left} {f} promised = everywhere xs lent f left promised.finding promised.destination
+
+-- "At every node of every model": of every data model of source 000's definition 1, with any nodes
+pub typed_means : (xs : List ℕ) (room : ℕ) (file : List ℕ) → typing_of xs room ≡ found file → (t : NodeText) → node t [] ≡ xs
+    → (M : Model) (nom : Naming M) (u : M.Node) → Holds M nom (root_of file) u ↔ Holds M nom (node_means t) u
+typed_means xs room file h t e M nom u = go (outcome xs room)
+  where
+    go : Outcome xs room → Holds M nom (root_of file) u ↔ Holds M nom (node_means t) u
+    go (long l g) = found_no file 30 0 (sym h ∙ g)
+    go (fault l k a g) = found_no file 30 k (sym h ∙ g)
+    go (later l m k other a b g) = found_no file m k (sym h ∙ g)
+    go (typed l s f w g) =
+        let tokens = ap range_check (same_tokens t s (e ∙ sym f)) ∙ w.within_ranges in
+        let trees = same_trees t s (e ∙ sym f) tokens in
+        let is : file ≡ file_of (entries_in t) = found_is file (file_of (entries_in s)) (sym h ∙ g) ∙ ap (λ (x : Tree). file_of (entries_of x)) (sym trees) in
+        subst (λ (bs : List ℕ). Holds M nom (root_of bs) u ↔ Holds M nom (node_means t) u) (sym is)
+        (file_means t tokens (subst (λ (x : Tree). length (entries_of x) ≤ max_entries) (sym trees) w.few) M nom u)
 
 -- the numbers of a finding are small
 abbrev pub Small : Finding (List ℕ) → Type 0

@@ -36,7 +36,7 @@ loop-again : tie.Need-loop-preserved invariant-loop decreases-loop
 loop-again c =
     let l = c.before.before.before.before.before.loop in
     let s = c.before.before.before.before.before.before.before.before.before in
-    let v = s.requires.0.edges l.i (rw c.before.before.before.before.before.before.IsEdge-count.ensures at c.before.before.before.before.loop-test.true) in
+    let v = s.requires.0.edges l.i (rw c.before.before.before.before.before.before.edge-count.ensures at c.before.before.before.before.loop-test.true) in
     let n = s.requires.0.header.narrow in (
       search rules,
       search rules,
@@ -52,7 +52,7 @@ returns : tie.Need-returns invariant-loop decreases-loop
 returns c =
     let l = c.before.loop in
     let a = c.before.before.before.before.before.args in
-    subst (λ (k : ℕ). Linked a.d.now k a.table.now l.table) (omega (arith, c.before.before.IsEdge-count.ensures)) l.invariant.2
+    subst (λ (k : ℕ). Linked a.d.now k a.table.now l.table) (omega (arith, c.before.before.edge-count.ensures)) l.invariant.2
 
 pub fill-successors-spec : {M : Type 1} → statement M
 fill-successors-spec =
