@@ -37,8 +37,8 @@ def step_word(step):
     step = plain(step)
     number = re.search(r"\d*$", step)[0]
     base = step[: len(step) - len(number)]
-    base = base[:-4] if base.endswith("-law") else RESPELLED.get(base, base)
-    return base + number
+    base = base[:-4] if base.endswith(("-law", "-lem")) else RESPELLED.get(base, base)
+    return base.lower() + number
 
 
 def read(path):
