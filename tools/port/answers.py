@@ -90,6 +90,8 @@ class Function:
             if old:
                 self.steps[plain(old)] = new
         self.places = {plain(p[0]): n for p, n in zip(data["places"], data["places_by_name"])}
+        self.asked = data["asked"]
+        self.given = {new: data["params"].get(callee) for _, _, (old, new), callee, _ in data["places"] if callee}
         self.loops = {plain(old): (new, vars_) for (old, new), vars_ in data["loops"]}
         self.changed = {plain(l[0][0]): ch for l, ch in zip(data["loops"], data["changed"])}
         self.arms = {}
@@ -177,6 +179,11 @@ class Turner:
             else:
                 self.said.append(f"step {step}?")
                 new = step
+        if rest[:1] == ["auto"] and rest[1:2] in (["0"], ["1"]) and self.fn.given.get(new):
+            at = 1
+            while rest[at : at + 1] == ["1"]:
+                at += 1
+            rest = ["auto", self.fn.given[new][at - 1]] + rest[at + 1 :]
         if rest[:1] == ["ensures"]:
             found = self.clauses_of(step)
             if found:
@@ -323,7 +330,7 @@ def turn(path, data, own, clauses, module, common):
             body = rename(t.body(body))
             if MADE_UP.search(body):
                 continue
-            body = fields_named(new, body, own, clauses)
+            body = fields_named(new, body, own, clauses, {fn.need(k) or k: v for k, v in fn.asked.items()})
             lead = " " + " ".join(["c" if a == at else a for a in ctx]) if ctx else ""
             answers.append("\n".join(comments + [f"pub {new} : goal.{new}"] + unfolding + [f"{new}{lead} ={body if body.startswith(chr(10)) or body.startswith(' ') else ' ' + body}"]))
             continue
@@ -410,8 +417,10 @@ def split_tuple(text):
     return parts + [last] if last else parts
 
 
-def fields_named(goal, body, own, clauses):
+def fields_named(goal, body, own, clauses, asked=None):
     """A tuple of clauses as a record with the clauses' names."""
+    if asked and goal in asked:
+        return named_parts(body, asked[goal])
     m = re.match(r"(.*)-requires(-.*)?$", goal)
     if m:
         callee = m[1]
@@ -421,6 +430,10 @@ def fields_named(goal, body, own, clauses):
         names = own[1]
     else:
         return body
+    return named_parts(body, names)
+
+
+def named_parts(body, names):
     if len(names) < 2:
         return body
     cut = max(body.rfind(" in (\n"), body.rfind(" in\n"), body.rfind(" in ("))
@@ -488,7 +501,7 @@ def main(crates):
             f = sub.split("/")[-1].lstrip("+")
             module = f"Rattle.{crate}.proofs.{sub.replace('/', '.')}"
             try:
-                what, done = turn(path, names[key], own.get(f, ([], [])), clauses, module, common)
+                what, done = turn(path, names[key], own.get(f, ([], [])), {**clauses, **own}, module, common)
             except Exception as e:  # noqa: BLE001
                 what, done = [f"{type(e).__name__}: {e}"], False
             for w in what:

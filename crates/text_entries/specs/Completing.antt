@@ -8,7 +8,7 @@ use borrow.Author.Tests.{lt-ltb, le-ltb, eq-eqb, ne_eqb, eqb-true, eqb-false, lt
 use Rattle.wire.specs.Choice.{pick}
 use Rattle.wire.specs.Onto.{onto}
 use Rattle.typed_file.specs.Trees.{Tree, tree, Part, number, entry}
-use Rattle.typed_file.specs.Entries.{Entry, at, place, complete, entries_of, entry_bytes}
+use Rattle.typed_file.specs.Entries.{Entry, complete, entries_of, entry_bytes}
 use Rattle.typed_file.specs.Completion.{Stands, PartIs, Distinct}
 use Rattle.text_cells.specs.Cells.{CellIs, FieldIs}
 use Rattle.text_entries.specs.declared.Entries.{Entries}
