@@ -92,6 +92,7 @@ class Function:
         self.places = {plain(p[0]): n for p, n in zip(data["places"], data["places_by_name"])}
         self.asked = data["asked"]
         self.given = {new: data["params"].get(callee) for _, _, (old, new), callee, _ in data["places"] if callee}
+        self.callee = {new: callee for _, _, (old, new), callee, _ in data["places"] if callee}
         self.loops = {plain(old): (new, vars_) for (old, new), vars_ in data["loops"]}
         self.changed = {plain(l[0][0]): ch for l, ch in zip(data["loops"], data["changed"])}
         self.arms = {}
@@ -150,7 +151,7 @@ class Turner:
             for w in (it.replace("-", "_"),):
                 if w in self.clauses:
                     return self.clauses[w]
-        for w in sorted(self.clauses, key=len, reverse=True):
+        for w in sorted((k for k in self.clauses if isinstance(k, str)), key=len, reverse=True):
             if base.replace("-", "_").startswith(w + "_") or base.replace("-", "_").endswith("_" + w):
                 return self.clauses[w]
         return None
@@ -185,7 +186,8 @@ class Turner:
                 at += 1
             rest = ["auto", self.fn.given[new][at - 1]] + rest[at + 1 :]
         if rest[:1] == ["ensures"]:
-            found = self.clauses_of(step)
+            callee = self.fn.callee.get(new, "").split("::")
+            found = self.clauses.get((callee[0], callee[-1])) or self.clauses_of(step)
             if found:
                 rest = ["ensures"] + numbered(rest[1:], found[1])
         if rest[:1] == ["requires"]:
@@ -424,7 +426,7 @@ def fields_named(goal, body, own, clauses, asked=None):
     m = re.match(r"(.*)-requires(-.*)?$", goal)
     if m:
         callee = m[1]
-        found = [w for w in clauses if callee == w or callee.startswith(w + "-") or callee.endswith("-" + w)]
+        found = [w for w in clauses if isinstance(w, str) and (callee == w or callee.startswith(w + "-") or callee.endswith("-" + w))]
         names = clauses[max(found, key=len)][0] if found else []
     elif goal.startswith("returns"):
         names = own[1]
@@ -478,6 +480,7 @@ def main(crates):
     for p in glob.glob("crates/*/src/**/*.rt", recursive=True):
         for k, v in clause_names(read(p)).items():
             clauses.setdefault(k, v)
+            clauses[p.split("/")[1], k] = v
     for crate in crates:
         here = f"crates/{crate}"
         olds = sorted(glob.glob(f"{here}/proofs/**/Proof.antt", recursive=True))
