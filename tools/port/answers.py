@@ -180,11 +180,11 @@ class Turner:
             else:
                 self.said.append(f"step {step}?")
                 new = step
-        if rest[:1] == ["auto"] and rest[1:2] in (["0"], ["1"]) and self.fn.given.get(new):
+        if rest[:1] in (["auto"], ["new"]) and rest[1:2] in (["0"], ["1"]) and self.fn.given.get(new):
             at = 1
             while rest[at : at + 1] == ["1"]:
                 at += 1
-            rest = ["auto", self.fn.given[new][at - 1]] + rest[at + 1 :]
+            rest = [rest[0], self.fn.given[new][at - 1]] + rest[at + 1 :]
         if rest[:1] == ["ensures"]:
             callee = self.fn.callee.get(new, "").split("::")
             found = self.clauses.get((callee[0], callee[-1])) or self.clauses_of(step)
@@ -217,6 +217,17 @@ class Turner:
                 break
             rest = re.sub(r"(?<![\w'.-])%s(?![\w'-])" % re.escape(m[1]), lambda q: m[2], text[m.end() :])
             text = text[: m.start()] + rest
+        # let r = c.f in, where a clause of r goes by a number
+        at = 0
+        while True:
+            names = "|".join(sorted(map(re.escape, self.contexts), key=len, reverse=True))
+            m = re.compile(r"let (%s) = ((?:%s)(?:\.[^\s(){}\[\].,;]+)+) in[ \n]?[ ]*" % (WORD, names)).search(text, at)
+            if not m:
+                break
+            at = m.end()
+            if re.search(r"(?<![\w'.-])%s\.(ensures|requires|new|auto)\.[01]" % re.escape(m[1]), text[at:]):
+                rest = re.sub(r"(?<![\w'.-])%s(?![\w'-])" % re.escape(m[1]), lambda q: m[2], text[at:])
+                text, at = text[: m.start()] + rest, m.start()
         names = "|".join(sorted(map(re.escape, self.contexts), key=len, reverse=True))
         for h, place in self.helpers.items():
             asked = f"(goal.at.{self.goal} {self.lead}).{place}"
@@ -438,11 +449,11 @@ def fields_named(goal, body, own, clauses, asked=None):
 def named_parts(body, names):
     if len(names) < 2:
         return body
-    cut = max(body.rfind(" in (\n"), body.rfind(" in\n"), body.rfind(" in ("))
     head, last = "", body
-    while cut >= 0:
-        head, last = body[: cut + 3], body[cut + 3 :]
-        break
+    for m in re.finditer(r" in(?=\s+\()", body):
+        if split_tuple(body[m.end() :]):
+            head, last = body[: m.end()], body[m.end() :]
+            break
     parts = split_tuple(last)
     while parts and len(parts) < len(names):
         more = split_tuple(parts[-1])

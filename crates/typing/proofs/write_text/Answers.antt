@@ -8,22 +8,19 @@ use Rattle.typing.proofs.write_text.Goals as goal
 
 pub write_tokens-requires : goal.write_tokens-requires
 write_tokens-requires c =
-    let r = c.read_tokens in
-    let held = tokens_held c.requires.t_value.0 c.args.text.now c.requires.t_value.1 _ (sym (ap ranged_of c.in-Within.is) ∙ r.ensures.answer) r.new.tokens _ refl c.requires.text_len_bound r.ensures.words in record {
+    let held = tokens_held c.requires.t_value.0 c.args.text.now c.requires.t_value.1 _ (sym (ap ranged_of c.in-Within.is) ∙ c.read_tokens.ensures.answer) c.read_tokens.new.tokens _ refl c.requires.text_len_bound c.read_tokens.ensures.words in record {
       tokens_len = held.0;
       tokens_of = (c.requires.t_value.0, held.1);
     }
 
 pub returns-in-Within : goal.returns-in-Within
 returns-in-Within c =
-    let r = c.read_tokens in
     let room = length c.args.out.now in
-    let answer = sym (ap ranged_of c.in-Within.is) ∙ r.ensures.answer in
-    let done = c.write_tokens in record {
-      finding = λ t e. let held = tokens_held t c.args.text.now e _ answer r.new.tokens _ refl c.requires.text_len_bound r.ensures.words in
-          done.ensures.finding t held.1 ∙ ap written (text_ranged t c.args.text.now e _ answer room);
-      destination = λ t e. let held = tokens_held t c.args.text.now e _ answer r.new.tokens _ refl c.requires.text_len_bound r.ensures.words in
-          done.ensures.destination t held.1 ∙ ap (λ (f : Finding (List ℕ)). destination_after f c.args.out.now) (text_ranged t c.args.text.now e _ answer room);
+    let answer = sym (ap ranged_of c.in-Within.is) ∙ c.read_tokens.ensures.answer in record {
+      finding = λ t e. let held = tokens_held t c.args.text.now e _ answer c.read_tokens.new.tokens _ refl c.requires.text_len_bound c.read_tokens.ensures.words in
+          c.write_tokens.ensures.finding t held.1 ∙ ap written (text_ranged t c.args.text.now e _ answer room);
+      destination = λ t e. let held = tokens_held t c.args.text.now e _ answer c.read_tokens.new.tokens _ refl c.requires.text_len_bound c.read_tokens.ensures.words in
+          c.write_tokens.ensures.destination t held.1 ∙ ap (λ (f : Finding (List ℕ)). destination_after f c.args.out.now) (text_ranged t c.args.text.now e _ answer room);
     }
 
 pub returns-in-Beyond : goal.returns-in-Beyond
