@@ -1,5 +1,5 @@
 #!/bin/sh
-# Compiles the C examples against the proved library (rt staticlib judge) and runs them: `empty` by itself, `judge` on
+# Compiles the C examples against the proved library (tools/library.sh) and runs them: `empty` by itself, `judge` on
 # every sample folder that has both files: each line must be the one that crates/readings/stdout has; and `order` on a
 # block as it was sent, of which it must make the sample of the same block in order, byte for byte, and on one of no
 # nodes; and `type` on the text of a sample's pattern, which it must write byte for byte, and on one with a newline.

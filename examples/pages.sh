@@ -2,7 +2,7 @@
 # Makes a page of each kind with `riser explain --html` (a block, a tableau, refusals), and takes pictures of them with a
 # real browser, in light and dark: Debian's chromium, without a window. No part of the gate, which checks the pages
 # themselves. Pages and pictures come to stand in a folder, target/pages if none is named; those that are there are
-# replaced. Needs the tool: `rt staticlib judge`, then `cargo build --release`.
+# replaced. Needs the tool: `tools/library.sh`, then `cargo build --release`.
 set -eu
 root=$(cd "$(dirname "$0")/.." && pwd)
 folder=${1:-$root/target/pages}

@@ -8,10 +8,12 @@ root=$(cd "$(dirname "$0")/.." && pwd)
 cd "$root"
 mkdir -p target
 echo "proving and building the bench program and the typist (some seven minutes, the first time)" >&2
-if ! rt check bench typist >target/samples.log 2>&1; then
-    echo "samples.sh: rt check bench typist failed; target/samples.log says why" >&2
-    exit 1
-fi
+for program in bench typist; do
+    if ! (cd "crates/$program" && rt run </dev/null) >target/samples.log 2>&1; then
+        echo "samples.sh: rt run failed in crates/$program; target/samples.log says why" >&2
+        exit 1
+    fi
+done
 
 judge() {
     if [ ! -d "$1" ]; then
@@ -19,7 +21,7 @@ judge() {
         exit 1
     fi
     printf '%s: ' "$(basename "$1")"
-    (cd "$1" && "$root/target/bin/bench")
+    (cd "$1" && "$root/crates/bench/out/bench")
 }
 
 if [ $# -gt 0 ]; then
@@ -37,5 +39,5 @@ typed=$(mktemp -d)
 trap 'rm -rf "$typed"' EXIT
 for text in "$data"/texts/*.txt; do
     printf 'texts/%s: ' "$(basename "$text" .txt)"
-    (cd "$typed" && "$root/target/bin/typist" "$text")
+    (cd "$typed" && "$root/crates/typist/out/typist" "$text")
 done

@@ -1,4 +1,5 @@
-/* The proved judge, to link from C or C++: target/staticlib/libjudge.a, written by `rt staticlib judge`.
+/* The proved judge, to link from C or C++: target/staticlib/libjudge.a, written by
+ * tools/library.sh.
  *
  * Each function takes any bytes of any length and answers one number: riser_model_area a number of bytes,
  * the others a packed finding. A pointer may be anything, NULL included, where its length is 0. The working

@@ -1,4 +1,4 @@
-//! Links the proved library that `rt staticlib judge` writes.
+//! Links the proved library that `tools/library.sh` writes.
 
 use std::path::Path;
 
@@ -7,7 +7,7 @@ fn main() {
     let folder = root.join("target/staticlib");
     let archive = folder.join("libjudge.a");
     if !archive.exists() {
-        println!("cargo:warning=target/staticlib/libjudge.a is missing: run `rt staticlib judge`");
+        println!("cargo:warning=target/staticlib/libjudge.a is missing: run tools/library.sh");
     }
     println!("cargo:rustc-link-search=native={}", folder.display());
     println!("cargo:rustc-link-lib=static=judge");

@@ -2,6 +2,6 @@
 // started in, and prints one line.
 #![tactic(auto)]
 
-fn main() {
-    runner::run(b"pattern.bin", b"proposal.bin");
+fn main(rt: HostRuntime) {
+    runner::run(&rt, b"pattern.bin", b"proposal.bin");
 }

@@ -2,7 +2,8 @@
 // older model file in order and typing a pattern, over byte slices. Each answers one number, a packed
 // finding. Packing loses nothing: taken apart, the answer tells the finding (each function's clause
 // `finding`), and of what it tells the promise holds (`promise`). How much area a model wants is asked
-// beside them, and answered as it is.
+// beside them, and answered as it is. A library exports nothing: the static library, `judge_c`, has a
+// function of the same name for each, which calls it.
 ghost use Rattle.std.specs.Prelude.{◌≡◌, ℕ, ◌≤◌, length};
 ghost use contract.Monad.{fact};
 ghost use Rattle.pattern.specs.Checks.Finding.{Finding, written};

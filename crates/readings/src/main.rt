@@ -6,7 +6,8 @@
 ghost use Rattle.std.specs.Prelude.{◌≤◌, length};
 ghost use Rattle.io.specs.Counts.{IsPrefixLen};
 
-use libc::STDOUT_FILENO;
+use std::fs::Files;
+use std::io::Print;
 
 // The most bytes of a name of a file.
 const PATH_BYTES: usize = 64;
@@ -48,26 +49,26 @@ enum Kind {
     Texts,
 }
 
-fn judge_folder(folder: &[u8]) {
+fn judge_folder<R: Files + Print>(rt: &R, folder: &[u8]) {
     let mut pattern = [0u8; PATH_BYTES];
     let mut proposal = [0u8; PATH_BYTES];
     let n = name_of(folder, b"/pattern.bin", &mut pattern);
     let m = name_of(folder, b"/proposal.bin", &mut proposal);
-    runner::run(&pattern[..n], &proposal[..m]);
+    runner::run(rt, &pattern[..n], &proposal[..m]);
 }
 
-fn type_text(name: &[u8]) {
+fn type_text<R: Files + Print>(rt: &R, name: &[u8]) {
     let mut text = [0u8; PATH_BYTES];
     let n = name_of(name, b".txt", &mut text);
-    runner::typist::type_file(&text[..n]);
+    runner::typist::type_file(rt, &text[..n]);
 }
 
-fn sample(name: &[u8], kind: Kind) {
-    io::write_all(STDOUT_FILENO, name);
-    io::write_all(STDOUT_FILENO, b": ");
+fn sample<R: Files + Print>(rt: &R, name: &[u8], kind: Kind) {
+    let _ = rt.write_all(name);
+    let _ = rt.write_all(b": ");
     match kind {
-        Kind::Folders => judge_folder(name),
-        Kind::Texts => type_text(name),
+        Kind::Folders => judge_folder(rt, name),
+        Kind::Texts => type_text(rt, name),
     }
 }
 
@@ -87,23 +88,23 @@ fn line_end(list: &[u8], from: usize) -> usize
 }
 
 // Runs the samples of a list, a name on each line.
-fn samples(list: &[u8], kind: Kind) {
+fn samples<R: Files + Print>(rt: &R, list: &[u8], kind: Kind) {
     let mut at = 0;
     while at < list.len() {
         let end = line_end(list, at);
-        sample(&list[at..end], kind);
+        sample(rt, &list[at..end], kind);
         at = end + 1;
     }
 }
 
 // Runs the samples of a list in a file.
-fn listed(path: &[u8], kind: Kind) {
+fn listed<R: Files + Print>(rt: &R, path: &[u8], kind: Kind) {
     let mut list = [0u8; LIST_BYTES];
-    let n = runner::load(path, &mut list);
-    samples(&list[..n], kind);
+    let n = runner::load(rt, path, &mut list);
+    samples(rt, &list[..n], kind);
 }
 
-fn main() {
-    listed(b"samples.txt", Kind::Folders);
-    listed(b"texts.txt", Kind::Texts);
+fn main(rt: HostRuntime) {
+    listed(&rt, b"samples.txt", Kind::Folders);
+    listed(&rt, b"texts.txt", Kind::Texts);
 }

@@ -4,8 +4,11 @@
 use base.Logic.{ent, sep, emp, via, emp∗, comm∗}
 use contract.Monad.{fact, fact_i}
 use borrow.Fn.World.{World}
+use borrow.Fn.Read.{all∗_one}
 
-pub held : (w : World) (φ : Type 1) → φ → ent w.𝓤 (emp w.𝓤) (sep w.𝓤 (fact w.𝓤 φ) (emp w.𝓤))
+pub held : (w : World) (φ : Type 1) → φ → ent w.𝓤 (emp w.𝓤) (sep w.𝓤 (sep w.𝓤 (fact w.𝓤 φ) (emp w.𝓤)) (emp w.𝓤))
 held w φ h =
-    via w.𝓤 (fact w.𝓤 φ) (fact_i w.𝓤 φ (emp w.𝓤) h)
-    (via w.𝓤 (sep w.𝓤 (emp w.𝓤) (fact w.𝓤 φ)) (emp∗ w.𝓤 (fact w.𝓤 φ)) (comm∗ w.𝓤 (emp w.𝓤) (fact w.𝓤 φ)))
+    via w.𝓤 (sep w.𝓤 (fact w.𝓤 φ) (emp w.𝓤))
+    (via w.𝓤 (fact w.𝓤 φ) (fact_i w.𝓤 φ (emp w.𝓤) h)
+    (via w.𝓤 (sep w.𝓤 (emp w.𝓤) (fact w.𝓤 φ)) (emp∗ w.𝓤 (fact w.𝓤 φ)) (comm∗ w.𝓤 (emp w.𝓤) (fact w.𝓤 φ))))
+    (all∗_one w (sep w.𝓤 (fact w.𝓤 φ) (emp w.𝓤)))

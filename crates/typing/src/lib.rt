@@ -68,7 +68,8 @@ fn write_text(text: &[u8], out: &mut [u8]) -> TypeFinding
 // the front of the destination; or the first refusal that applies, and the destination stays as it was.
 // At every node of every data model, finite or not, the file's root holds exactly where the text does.
 pub fn type_pattern(text: &[u8], out: &mut [u8]) -> TypeFinding
-    ensures { TypePromise text.now out.old (finding_of result) out.new }
+    ensures promise { TypePromise text.now out.old (finding_of result) out.new }
+    ensures* everywhere { fact 𝓤 (TypedEverywhere text.now (finding_of result) out.new) ∗ ⊤ₛ }
 {
     if TEXT_BYTES < text.len() {
         return TypeFinding::Refused(TypeRefusal::Grammar(0));

@@ -3,12 +3,17 @@
 // it is started in, and prints one line.
 #![tactic(auto)]
 
-fn main() {
-    if os::arg_count() < 2 {
-        runner::typist::type_input();
-        return;
+use runner::typist::{type_file, type_input};
+use std::env::{Env, FillError};
+
+// One more than the longest path has: a longer argument names no file.
+const PATH_BYTES: usize = 4096;
+
+fn main(rt: HostRuntime) {
+    let mut path = [0u8; PATH_BYTES];
+    match rt.arg(1, &mut path) {
+        Ok(n) => type_file(&rt, &path[..n]),
+        Err(FillError::TooLong) => type_file(&rt, b""),
+        Err(FillError::NotPresent) => type_input(&rt),
     }
-    let mut path = io::buffer();
-    let n = os::arg(1, &mut path);
-    runner::typist::type_file(&path[..n]);
 }
