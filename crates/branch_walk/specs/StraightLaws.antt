@@ -20,7 +20,7 @@ use Rattle.tableau.specs.declared.finding.Counts.{Counts}
 use Rattle.tableau.specs.declared.finding.WalkRefusal.{WalkRefusal}
 use Rattle.branch_step.specs.declared.Stop.{Stop}
 use Rattle.branch_step.specs.declared.Advance.{Advance}
-use Rattle.tableau.specs.Run.{run, max_lines, max_waiting, longest, further, limits_check, branches, counted, none}
+use Rattle.tableau.specs.Run.{run, max_lines, max_waiting, longest, further, limits_check, branches, counted}
 use Rattle.tableau.specs.RunCloses.{same_counts}
 use Rattle.rules.specs.Sides.{sides}
 use Rattle.branch_step.specs.Step.{put_lines, pushed, advance_of}
@@ -195,7 +195,7 @@ module _ {bs ss : List ℕ} {s : ℕ} where
       subst (WalkLent bs ss s xs k') (sym (add-zero len)) (lent_kept lent xs k' refl (λ j i. refl) left)
   lent_lines {xs} {k} {len} lent (l ∷ ls) k' f m left =
       subst (WalkLent bs ss s (put_lines (put_line xs len l) (len + 1) ls) k') place
-      (lent_lines (lent_more lent l k' f.0 (omega (arith, m)) left) ls k' f.1 (omega (arith, m)) left)
+      (lent_lines {xs = put_line xs len l} {k = k'} {len = len + 1} (lent_more lent l k' f.0 (omega (arith, m)) left) ls k' f.1 (omega (arith, m)) left)
     where
       place : len + 1 + length ls ≡ len + suc (length ls)
       place = omega arith

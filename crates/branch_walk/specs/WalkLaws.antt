@@ -1,6 +1,6 @@
 -- The walk over a branch follows `run`: a law for each way out of its functions.
 -- Assumes nothing.
-use Rattle.std.specs.Prelude.{Bool, true, false, List, [], ◌∷◌, ◌++◌, ◌≡◌, refl, ℕ, zero, suc, ◌+◌, ◌-◌, ◌*◌, ◌≤◌, ◌<◌, ltb, length}
+use Rattle.std.specs.Prelude.{Bool, true, false, List, [], ◌∷◌, ◌++◌, ◌≡◌, refl, ℕ, suc, ◌+◌, ◌-◌, ◌*◌, ◌≤◌, ◌<◌, ltb, length}
 use Rattle.std.proofs.Common.{sym, ap, ◌∙◌, subst, le_refl, le_trans, add-zero, arith, ltb-true, ltb-false}
 use Rattle.std.proofs.Math.Nat.{sub-zero, max-le}
 use Rattle.pattern.specs.Checks.Finding.{found, refused}
@@ -22,10 +22,9 @@ use Rattle.tableau.specs.declared.finding.WalkRefusal.{WalkRefusal}
 use Rattle.branch_step.specs.declared.Stop.{Stop}
 use Rattle.branch_end.specs.declared.BranchEnd.{BranchEnd}
 use Rattle.branch_end.specs.Ends.{count_clash, count_fork, finished_if, finished}
-use Rattle.tableau.specs.Run.{run, max_waiting, branches, counted, none}
+use Rattle.tableau.specs.Run.{run, max_waiting, counted, none}
 use Rattle.tableau.specs.RunCloses.{same_counts}
 use Rattle.tableau.specs.Judging.{max_steps, area_need, closed_by, clears, area_after, walk_number}
-use Rattle.rules.specs.Sides.{sides}
 use Rattle.branch_walk.specs.Straight.{WalkLent, remaining, Leaves, Onto, Stops}
 use Rattle.branch_walk.specs.StraightLaws.{steps_next, steps_none, run_goes_on, run_crowded, concludes_formed, lent_kept, lent_more}
 use Rattle.branch_walk.specs.Walk.{Bounded, ClosedAt, WalkSays, Walks}

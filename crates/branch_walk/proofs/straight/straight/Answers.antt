@@ -1,6 +1,5 @@
 -- `branch_walk::straight::straight` meets its contract: the steps passed lead on from the first to the one that is next.
 -- Assumes nothing.
-use Rattle.std.proofs.Common.{◌-◌}
 use Rattle.branch_walk.specs.StraightLaws.{straight_grows, straight_stops, straight_open}
 use Rattle.branch_walk.proofs.straight.straight.Goals as goal
 

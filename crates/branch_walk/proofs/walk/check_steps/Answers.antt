@@ -1,6 +1,6 @@
 -- `branch_walk::walk::check_steps` meets its contract: the walk begins on line 0, and the area is cleared.
 -- Assumes nothing.
-use Rattle.std.proofs.Common.{rules, ◌∙◌, ap, ℕ, arith, replicate}
+use Rattle.std.proofs.Common.{rules, ◌∙◌, ap, arith}
 use Rattle.pattern.specs.File.Valid.{valid}
 use Rattle.names.specs.Set.{numbers_back}
 use Rattle.branch_end.specs.Ends.{finished}
@@ -20,12 +20,10 @@ walk_first-requires c = record {
   bounded = none_bounded;
 }
 
-pub returns : goal.returns
-returns c =
-    let end = c.end_of in record {
-      finding = c.finish.ensures ∙ ap (finished c.args.s) end.ensures
-          ∙ walk_finishes c.args.area.now _ (search rules) (rw c.store.ensures at c.walk_first.ensures.walks);
-      clears = λ xs. rw c.finish.ensures (finished_clears c.args.s end.result xs);
-      area = c.clear.ensures
-          ∙ ap (λ (m : ℕ). replicate m 0) (c.area-2-1.given.1.1 ∙ c.store.kept.0);
-    }
+pub returns-clause-finding : goal.returns-clause-finding
+returns-clause-finding c =
+    c.finish.ensures ∙ ap (finished c.args.s) c.end_of.ensures
+    ∙ walk_finishes c.args.area.now _ (search rules) (rw c.store.ensures at c.walk_first.ensures.walks)
+
+pub returns-clause-clears : goal.returns-clause-clears
+returns-clause-clears c = λ xs. rw c.finish.ensures (finished_clears c.args.s c.end_of.result xs)
