@@ -6,7 +6,8 @@ use mathlib.Core.Path.{sym, ◌∙◌, ap, ap₂}
 use borrow.Author.Tests.{eqb-true}
 use Rattle.nodeset.specs.Set.{width, has, size_of}
 use Rattle.pattern.specs.Checks.Finding.{found}
-use Rattle.decision.specs.Judged.{met, judged_empty, judged_low}
+use Rattle.decision.specs.Judged.{met}
+use Rattle.decision.proofs.Judged.{judged_empty, judged_low}
 use Rattle.nodeset.specs.Members.{lowest_member}
 use Rattle.model_judge.proofs.judged.Statement.{statement}
 use Rattle.model_judge.proofs.judged.Tie as tie
