@@ -18,10 +18,11 @@ use Rattle.model_records.specs.Layout.{node_count, name_count, edge_count}
 use Rattle.model_records.specs.declared.Order.{Order}
 use Rattle.model_records.specs.Checks as file
 use Rattle.model_records.specs.Valid as file_valid
+use Rattle.model_records.proofs.Valid.{model_valid}
 use Rattle.model.specs.Judging as model
 use Rattle.ordered_file.specs.NewFile.{ordered_file}
-use Rattle.ordered_file.specs.EdgeList.{edges_few}
-use Rattle.ordered_file.specs.Made.{length_made}
+use Rattle.ordered_file.proofs.EdgeList.{edges_few}
+use Rattle.ordered_file.proofs.Made.{length_made}
 use Rattle.model_order.specs.Ordering.{file_within, ordering_of}
 use Rattle.lines.specs.declared.line.Line.{Line}
 use Rattle.rules.specs.declared.conclusion.Conclusion.{Conclusion}
@@ -203,7 +204,7 @@ ordering_narrow ds room =
     written_narrow (ordering_of ds room)
     (onward_narrow NarrowFile (file.model_check Order.Any ds) _ (model_narrow ds Order.Any)
     (λ e. unless_narrow NarrowFile (refuses_if (ltb room (length (ordered_file ds))) 29 0) (ordered_file ds)
-    (fault_narrow (ltb room (length (ordered_file ds))) 29 0 (lit< tt) (lit< tt)) (λ _. new_narrow ds (file_valid.model_valid Order.Any ds e).0)))
+    (fault_narrow (ltb room (length (ordered_file ds))) 29 0 (lit< tt) (lit< tt)) (λ _. new_narrow ds (model_valid Order.Any ds e).0)))
 
 -- ---- typing a pattern
 typing_written : (f : Finding (List ℕ)) → Small f → NarrowFinding Narrow (written f)

@@ -12,7 +12,7 @@ use Rattle.pattern.specs.declared.table.Sort.{Sort}
 use Rattle.pattern.specs.File.Table.{end_of_path, is_node, path_no_node, sort_no_node}
 use Rattle.pattern.specs.File.Reading.{count_of, sort_at}
 use Rattle.pattern.specs.Logic.Finite.{NodeOf, node_same}
-use Rattle.decision.specs.Root.{root_holds_law}
+use Rattle.decision.proofs.Root.{root_holds_law}
 use Rattle.relations.specs.Filled.{exactly_put}
 use Rattle.relations.specs.Covered.{RowsFit}
 use Rattle.evaluation.specs.Standing.{Leading, Lent, Standing, Evaluates, Ends, RootNodes}

@@ -18,17 +18,20 @@ use Rattle.nodeset.specs.declared.NodeSet.{NodeSet}
 use Rattle.nodeset.specs.Set.{width, has}
 use Rattle.slots.specs.Area.{node_entries, nodes_few}
 use Rattle.decision.specs.Decision.{holds_test}
-use Rattle.decision.specs.Judged.{Judged, met, unmet, judged_by, judged_of, Says, judged_says, judged_same}
+use Rattle.decision.specs.Judged.{Judged, met, unmet, judged_by, judged_of, Says}
+use Rattle.decision.proofs.Judged.{judged_says, judged_same}
 use Rattle.pattern.specs.File.Reading as reading
 use Rattle.model_file.specs.Enums as file
 use Rattle.model_records.specs.Layout.{node_count, edge_count}
-use Rattle.decision.specs.Root.{root_holds, renamed, judged_renamed}
+use Rattle.decision.specs.Root.{root_holds, renamed}
+use Rattle.decision.proofs.Root.{judged_renamed}
 use Rattle.model_records.specs.Contents.{is_listed, NamesListed, node_named, model_from}
 use Rattle.model_records.specs.declared.Order.{Order}
 use Rattle.model_records.specs.Order.{edge_at, EdgesRise}
 use Rattle.model_records.specs.Rising.{Ordered, no_repeat}
 use Rattle.model_records.specs.Checks.{model_check}
-use Rattle.model_records.specs.Valid.{ValidModel, model_valid, model_accepted, model_unordered, all_named}
+use Rattle.model_records.specs.Valid.{ValidModel, all_named}
+use Rattle.model_records.proofs.Valid.{model_valid, model_accepted, model_unordered}
 use Rattle.model.specs.declared.finding.JudgeRefusal.{JudgeRefusal}
 use Rattle.model.specs.declared.finding.ModelFinding.{ModelFinding}
 

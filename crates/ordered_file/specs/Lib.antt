@@ -1,4 +1,3 @@
 -- In the order of reading.
 pub mod NewFile
 pub mod EdgeList
-pub mod Made

@@ -20,7 +20,8 @@ use Rattle.pattern.specs.File.Valid.{valid}
 use Rattle.pattern.specs.File.Reading.{mark, header_check, entry_check, root_check, pattern_check, reading_of}
 use Rattle.pattern.specs.Meaning.Expression.{end, node_within, path_within, node_at, root_of}
 use Rattle.decision.specs.Decision.{holds_test, leads_test}
-use Rattle.decision.specs.Judged.{met, unmet, judged_by, judged_of, judged_says}
+use Rattle.decision.specs.Judged.{met, unmet, judged_by, judged_of}
+use Rattle.decision.proofs.Judged.{judged_says}
 use Rattle.pattern.specs.Meaning.Names.{uses_name}
 use Rattle.model_records.specs.Layout as layout
 use Rattle.model_records.specs.Contents.{leads_in, is_listed, NamesListed, node_named, model_from}

@@ -5,7 +5,7 @@ use Rattle.pattern.specs.Checks.Finding.{passes}
 use Rattle.model_records.specs.declared.Order.{Order}
 use Rattle.model_records.specs.Checks.{model_check}
 use Rattle.model_file.specs.Enums.{check_of}
-use Rattle.model_records.specs.Valid.{model_valid}
+use Rattle.model_records.proofs.Valid.{model_valid}
 use Rattle.model_judge.proofs.check_model.Goals.{In_default}
 use Rattle.model_judge.proofs.check_model.Goals as goal
 

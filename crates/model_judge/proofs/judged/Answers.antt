@@ -3,7 +3,8 @@
 use Rattle.std.proofs.Common.{ℕ, sym, ◌∙◌, ap, ap₂, eqb-true}
 use Rattle.nodeset.specs.Set.{width, has, size_of}
 use Rattle.pattern.specs.Checks.Finding.{found}
-use Rattle.decision.specs.Judged.{met, judged_empty, judged_low}
+use Rattle.decision.specs.Judged.{met}
+use Rattle.decision.proofs.Judged.{judged_empty, judged_low}
 use Rattle.nodeset.specs.Members.{lowest_member}
 use Rattle.model_judge.proofs.judged.Goals as goal
 

@@ -5,7 +5,8 @@ use Rattle.std.proofs.Common.{rules, below_none, below_more, lt-ltb, le-ltb, ℕ
 use Rattle.pattern.specs.Checks.Finding.{passes}
 use Rattle.pattern.specs.Checks.Range.{each_below_law, each_first}
 use Rattle.model_records.specs.Order.{in_order}
-use Rattle.model_records.specs.Rising.{least_behind, least_next, rank_narrow, order_ranked}
+use Rattle.model_records.specs.Rising.{least_behind, least_next}
+use Rattle.model_records.proofs.Rising.{rank_narrow, order_ranked}
 use Rattle.model_records.specs.Checks.{edge_check}
 use Rattle.model_file.specs.Enums.{check_of}
 use Rattle.model_records.specs.Valid.{edge_decides, order_refuses, order_passes}
