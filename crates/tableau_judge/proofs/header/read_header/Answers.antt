@@ -10,7 +10,7 @@ use Rattle.lines.specs.Lines.{name}
 use Rattle.tableau.specs.Judging.{mark, count_wrong, start_of, header_check}
 use Rattle.tableau_judge.specs.Headers.{header_of}
 use Rattle.tableau_judge.specs.JudgeLaws.{start_made, start_out}
-use Rattle.tableau_judge.proofs.header.read_header.Goals.{Else-t-lt-HEADER, Else-not-begins, Else-word-ne1, Else-count_wrong, In-Made-2, After-has}
+use Rattle.tableau_judge.proofs.header.read_header.Goals.{Else-t-lt-HEADER, Else-not-begins, Else-word-ne1, Else-count_wrong, In-Made, After-has}
 use Rattle.tableau_judge.proofs.header.read_header.Goals as goal
 
 pub returns-then-t-lt-HEADER : goal.returns-then-t-lt-HEADER
@@ -55,7 +55,7 @@ returns-in_default c bs uses =
       start_out _ _ c.of.ensures c.in_default.is,
     )
 
-made : (c : In-Made-2)
+made : (c : In-Made)
     → let start = start_of c.args.t.now in
     (ltb max_name start ≡ false) × (c.in-Made.start ≡ name start)
 made c = start_made _ _ _ c.of.ensures c.in-Made.is
@@ -64,7 +64,7 @@ used_start : (c : After-has) {t : Bool}
     → c.has.result ≡ t
     → let a = c.args in
     (bs : List ℕ) → SetOf (uses_name bs) a.used → uses_name bs (start_of a.t.now) ≡ t
-used_start c h bs uses = sym (uses _) ∙ (sym (rw (made (goal.at.After-has c).In-Made-2).1 at c.has.ensures) ∙ h)
+used_start c h bs uses = sym (uses _) ∙ (sym (rw (made (goal.at.After-has c).In-Made).1 at c.has.ensures) ∙ h)
 
 pub returns-then-has : goal.returns-then-has
 unfolding header_of header_check
@@ -74,7 +74,7 @@ returns-then-has c bs uses =
       marked (goal.at.returns-then-has c).Else-not-begins,
       version_one (goal.at.returns-then-has c).Else-word-ne1,
       count-right (goal.at.returns-then-has c).Else-count_wrong,
-      (made (goal.at.returns-then-has c).In-Made-2).0,
+      (made (goal.at.returns-then-has c).In-Made).0,
       used_start (goal.at.returns-then-has c).After-has c.if-has.true bs uses,
     )
 
@@ -86,8 +86,8 @@ returns c bs uses =
       marked (goal.at.returns c).Else-not-begins,
       version_one (goal.at.returns c).Else-word-ne1,
       count-right (goal.at.returns c).Else-count_wrong,
-      (made (goal.at.returns c).In-Made-2).0,
+      (made (goal.at.returns c).In-Made).0,
       used_start (goal.at.returns c).After-has c.if-has.false bs uses,
       c.word-steps.ensures,
-      (made (goal.at.returns c).In-Made-2).1,
+      (made (goal.at.returns c).In-Made).1,
     )

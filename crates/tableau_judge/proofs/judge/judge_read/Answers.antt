@@ -7,7 +7,7 @@ use Rattle.pattern.specs.Checks.Finding.{found}
 use Rattle.tableau.specs.Judging.{max_steps, step_bytes, area_need}
 use Rattle.tableau_judge.specs.Headers.{header_of, header_finding}
 use Rattle.tableau_judge.specs.JudgeLaws.{judging_area, judging_header, judging_steps, steps_there, steps_part, header_early}
-use Rattle.tableau_judge.proofs.judge.judge_read.Goals.{In-Read-2}
+use Rattle.tableau_judge.proofs.judge.judge_read.Goals.{In-Read}
 use Rattle.tableau_judge.proofs.judge.judge_read.Goals as goal
 
 pub returns-then-area-lt-AREA : goal.returns-then-area-lt-AREA
@@ -18,13 +18,13 @@ returns-then-area-lt-AREA c =
     }
 
 -- what the header says
-read : (c : In-Read-2)
+read : (c : In-Read)
     → let a = c.args in
     header_of a.p.now a.t.now ≡ found c.in-Read.h
 read c = sym (c.read_header.ensures _ c.used_names-used.ensures) ∙ ap header_finding c.in-Read.is
 
 -- so the steps are there
-steps-are : (c : In-Read-2)
+steps-are : (c : In-Read)
     → let a = c.args in
     let steps = c.in-Read.h.steps in
     (8 ≤ length a.t.now) × (length (step_bytes a.t.now) ≡ 6 * steps) × (steps ≤ max_steps)
@@ -32,8 +32,11 @@ steps-are c =
     let a = c.args in
     steps_there a.p.now a.t.now c.in-Read.h (read c)
 
+pub slice_bounds-check_steps-start : goal.slice_bounds-check_steps-start
+slice_bounds-check_steps-start c = (steps-are (goal.at.slice_bounds-check_steps-start c).In-Read).0
+
 pub slice_bounds-check_steps-count : goal.slice_bounds-check_steps-count
-slice_bounds-check_steps-count c = (steps-are (goal.at.slice_bounds-check_steps-count c).In-Read-2).0
+slice_bounds-check_steps-count c = (steps-are (goal.at.slice_bounds-check_steps-count c).In-Read).0
 
 pub slice_bounds-check_steps-end-in-Read-2 : goal.slice_bounds-check_steps-end-in-Read-2
 slice_bounds-check_steps-end-in-Read-2 c =
@@ -41,7 +44,7 @@ slice_bounds-check_steps-end-in-Read-2 c =
 
 pub check_steps-requires : goal.check_steps-requires
 check_steps-requires c =
-    let steps = steps-are (goal.at.check_steps-requires c).In-Read-2 in record {
+    let steps = steps-are (goal.at.check_steps-requires c).In-Read in record {
       p_value = c.requires;
       set_of = c.used_names-used.ensures;
       steps_len = (rw (steps_part c.args.t.now) steps.1, steps.2);
@@ -62,6 +65,6 @@ returns-in-Read c =
     let a = c.args in
     let room = c.if-area-lt-AREA.false in record {
       finding = rw (steps_part a.t.now) at c.check_steps.ensures.finding
-          ∙ sym (judging_steps a.p.now a.t.now (length a.area.now) a.n c.in-Read.h c.requires room (read (goal.at.returns-in-Read c).In-Read-2));
+          ∙ sym (judging_steps a.p.now a.t.now (length a.area.now) a.n c.in-Read.h c.requires room (read (goal.at.returns-in-Read c).In-Read));
       area = cleared_front area_need a.area.now _ room c.check_steps.ensures.area ∙ sym (c.check_steps.ensures.clears a.area.now);
     }
