@@ -12,6 +12,7 @@ use Rattle.pattern.specs.File.Entries.{max_entries}
 use Rattle.pattern.specs.File.Reading as reading
 use Rattle.pattern.specs.File.Reading.{count_of, pattern_check, reading_of}
 use Rattle.pattern.specs.File.Valid as pattern
+use Rattle.pattern.proofs.File.Valid.{passes_valid}
 use Rattle.nodeset.specs.Below.{count_le, lowest_le}
 use Rattle.decision.specs.Judged.{Judged, met, unmet, judged_if, judged_by}
 use Rattle.model_records.specs.Layout.{node_count, name_count, edge_count}
@@ -125,7 +126,7 @@ module _ (bs : List ℕ) where
 
   pub reading_narrow : NarrowFinding Narrow (reading_of bs)
   unfolding reading_of
-  reading_narrow = unless_narrow Narrow (pattern_check bs) (count_of bs) pattern_narrow (λ e. omega (arith, (pattern.passes_valid bs e).header.one_byte))
+  reading_narrow = unless_narrow Narrow (pattern_check bs) (count_of bs) pattern_narrow (λ e. omega (arith, (passes_valid bs e).header.one_byte))
 
 -- what every judgement begins with: the pattern, and the length of the area
 begins_narrow : (bs : List ℕ) (fault : Bool) (d : Check) → NarrowCheck d → NarrowCheck (pattern_check bs then refuses_if fault 9 0 then d)

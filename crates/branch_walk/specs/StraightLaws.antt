@@ -6,7 +6,7 @@ use Rattle.std.proofs.Common.{sym, ◌∙◌, subst, le_refl, le_trans, le_antis
 use Rattle.std.proofs.Math.Path.{ap}
 use Rattle.pattern.specs.Checks.Finding.{Finding, found, refused, onward, thereupon}
 use Rattle.pattern.specs.File.Reading.{count_of}
-use Rattle.pattern.specs.File.Valid.{valid}
+use Rattle.pattern.proofs.File.Valid.{valid}
 use Rattle.lines.specs.declared.line.Line.{Line}
 use Rattle.steps.specs.declared.step.Step.{Step}
 use Rattle.rules.specs.declared.conclusion.Conclusion.{Conclusion}

@@ -8,7 +8,8 @@ use Rattle.wire.specs.Cleared.{cleared}
 use Rattle.pattern.specs.declared.types.Name.{Name}
 use Rattle.pattern.specs.declared.types.Sign.{Sign}
 use Rattle.pattern.specs.File.Reading.{count_of, reading_of}
-use Rattle.pattern.specs.File.Valid.{Valid, valid}
+use Rattle.pattern.specs.File.Valid.{Valid}
+use Rattle.pattern.proofs.File.Valid.{valid}
 use Rattle.lines.specs.declared.line.Line.{Line}
 use Rattle.steps.specs.declared.step.Step.{Step}
 use Rattle.rules.specs.declared.conclusion.Conclusion.{Conclusion}

@@ -8,7 +8,8 @@ use Rattle.pattern.specs.Logic.Finite.{Finite, Named, model_of, naming_of, node_
 use Rattle.pattern.specs.File.Reading.{count_of}
 use Rattle.pattern.specs.File.Valid.{Valid}
 use Rattle.pattern.specs.Meaning.Expression.{root_of}
-use Rattle.pattern.specs.Meaning.Names.{uses_name, node_coincides}
+use Rattle.pattern.specs.Meaning.Names.{uses_name}
+use Rattle.pattern.proofs.Meaning.Names.{node_coincides}
 use Rattle.decision.specs.Decision.{holds_test}
 use Rattle.decision.specs.Judged.{Judged, met, unmet, judged_of, Exactly, HoldsNode, Says}
 use Rattle.decision.specs.Root.{root_holds, renamed}

@@ -15,7 +15,7 @@ use Rattle.pattern.specs.Checks.Range.{some_at}
 use Rattle.pattern.specs.File.Reading.{count_of}
 use Rattle.pattern.specs.Meaning.Names.{bears_name, entry_uses, uses_name}
 use Rattle.pattern.specs.Meaning.Clauses.{NodeMeans, PathMeans}
-use Rattle.pattern.specs.Meaning.Agreement.{published}
+use Rattle.pattern.proofs.Meaning.Agreement.{published}
 use Rattle.relations.specs.Tables.{Uses}
 use Rattle.evaluation.specs.Standing.{pending_bytes, Holding, Leading}
 

@@ -14,7 +14,8 @@ use Rattle.pattern.specs.declared.entry.Entry.{Entry}
 use Rattle.pattern.specs.File.Types.{max_axis, max_property, max_name, max_channel}
 use Rattle.pattern.specs.File.Entries.{HasEntry, entry_at}
 use Rattle.pattern.specs.File.Reading.{count_of, sort_at}
-use Rattle.pattern.specs.File.Valid.{Valid, EarlierNode, EarlierPath, valid}
+use Rattle.pattern.specs.File.Valid.{Valid, EarlierNode, EarlierPath}
+use Rattle.pattern.proofs.File.Valid.{valid}
 use Rattle.relations.specs.declared.kinds.NodeKind.{NodeKind}
 use Rattle.relations.specs.Kinds.{node_kind_of, comparison_kind, IsNodeKind, node_kind_is}
 use Rattle.relations.specs.Tables.{Before, property_row, name_row, nodes_row}

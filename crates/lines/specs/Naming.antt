@@ -12,7 +12,8 @@ use Rattle.pattern.specs.File.Types.{channel_number}
 use Rattle.pattern.specs.File.Valid.{Valid}
 use Rattle.pattern.specs.Meaning.Expression.{node_at, path_at}
 use Rattle.pattern.specs.Meaning.Agreement.{HoldsAt, LeadsAt}
-use Rattle.pattern.specs.Meaning.Names.{uses_name, Reference, node_coincides, path_coincides}
+use Rattle.pattern.specs.Meaning.Names.{uses_name, Reference}
+use Rattle.pattern.proofs.Meaning.Names.{node_coincides, path_coincides}
 use Rattle.lines.specs.declared.line.Line.{Line}
 use Rattle.lines.specs.Lines.{line_has, branch_has}
 use Rattle.lines.specs.Formed.{IsNode, IsPath, Formed, AllFormed}

@@ -10,7 +10,8 @@ use Rattle.pattern.specs.Checks.Finding.{Finding, found, refused, Check, passes,
 use Rattle.pattern.specs.Checks.Range.{some_below, some_at, none_at, none_below}
 use Rattle.pattern.specs.File.Types.{max_name}
 use Rattle.pattern.specs.File.Reading.{count_of, pattern_check}
-use Rattle.pattern.specs.File.Valid.{Valid, passes_valid, valid_passes}
+use Rattle.pattern.specs.File.Valid.{Valid}
+use Rattle.pattern.proofs.File.Valid.{passes_valid, valid_passes}
 use Rattle.pattern.specs.Meaning.Expression.{root_of}
 use Rattle.pattern.specs.Meaning.Names.{uses_name, used_in_range}
 use Rattle.nodeset.specs.Below.{lowest_below, lowest_holds, lowest_first}

@@ -16,7 +16,7 @@ use Rattle.pattern.specs.Checks.Finding.{Finding, found, refused, Check, passes,
 use Rattle.pattern.specs.Checks.Range.{some_below, each_below}
 use Rattle.pattern.specs.File.Fields.{each_field}
 use Rattle.pattern.specs.File.Entries.{same_bytes}
-use Rattle.pattern.specs.File.Valid.{valid}
+use Rattle.pattern.proofs.File.Valid.{valid}
 use Rattle.pattern.specs.File.Reading.{mark, header_check, entry_check, root_check, pattern_check, reading_of}
 use Rattle.pattern.specs.Meaning.Expression.{end, node_within, path_within, node_at, root_of}
 use Rattle.decision.specs.Decision.{holds_test, leads_test}

@@ -4,11 +4,12 @@ use Rattle.std.specs.Prelude.{◌≡◌, refl, ◌↔◌, List, ℕ}
 use Rattle.std.proofs.Common.{sym, subst}
 use Rattle.pattern.specs.declared.types.Comparison.{Comparison}
 use Rattle.pattern.specs.Logic.Semantics.{Model, Naming, Compared}
-use Rattle.pattern.specs.Logic.Compared.{compared_sym}
+use Rattle.pattern.proofs.Logic.Compared.{compared_sym}
 use Rattle.pattern.specs.File.Types.{channel_number}
 use Rattle.pattern.specs.File.Table.{end_of_path}
 use Rattle.pattern.specs.File.Valid.{Valid}
-use Rattle.pattern.specs.Meaning.Agreement.{LeadsAt, published}
+use Rattle.pattern.specs.Meaning.Agreement.{LeadsAt}
+use Rattle.pattern.proofs.Meaning.Agreement.{published}
 use Rattle.lines.specs.declared.line.CompareLine.{CompareLine}
 use Rattle.lines.specs.declared.line.Side.{Side}
 use Rattle.soundness.specs.Cases.{AlikeSides}

@@ -11,7 +11,8 @@ use Rattle.pattern.specs.File.Fields.{OfReferences, map_references}
 use Rattle.pattern.specs.File.Reading.{sort_at}
 use Rattle.pattern.specs.File.Valid.{Valid, Within, EarlierPath, within_at, refers_at}
 use Rattle.pattern.specs.Meaning.Clauses.{NodeMeans, PathMeans}
-use Rattle.pattern.specs.Meaning.Agreement.{HoldsAt, LeadsAt, published}
+use Rattle.pattern.specs.Meaning.Agreement.{HoldsAt, LeadsAt}
+use Rattle.pattern.proofs.Meaning.Agreement.{published}
 use Rattle.lines.specs.Formed.{IsNode, IsPath}
 
 -- what entry k refers to, read by the table's row for a kind: node entries and paths of the pattern

@@ -10,7 +10,8 @@ use Rattle.pattern.specs.declared.table.Kind.{Kind}
 use Rattle.pattern.specs.declared.table.Sort.{Sort}
 use Rattle.pattern.specs.declared.entry.Entry.{Entry}
 use Rattle.pattern.specs.Logic.Semantics.{Model, Naming, Compared}
-use Rattle.pattern.specs.Logic.Compared.{alike_is, compared_on, compared_other}
+use Rattle.pattern.specs.Logic.Compared.{alike_is, compared_other}
+use Rattle.pattern.proofs.Logic.Compared.{compared_on}
 use Rattle.pattern.specs.Checks.Tests.{or_is_false}
 use Rattle.pattern.specs.File.Types.{max_channel, channel_number, other_of}
 use Rattle.pattern.specs.File.Table.{end_of_path}

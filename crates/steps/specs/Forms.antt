@@ -5,7 +5,7 @@ use Rattle.std.proofs.Common.{inl, inr, arith}
 use Rattle.pattern.specs.Checks.Finding.{found}
 use Rattle.pattern.specs.File.Entries.{HasEntry}
 use Rattle.pattern.specs.File.Reading.{reading_of}
-use Rattle.pattern.specs.File.Valid.{valid}
+use Rattle.pattern.proofs.File.Valid.{valid}
 use Rattle.lines.specs.declared.line.EdgeLine.{EdgeLine}
 use Rattle.lines.specs.declared.line.Line.{Line}
 use Rattle.lines.specs.Formed.{IsPath, PathWithin, Formed}

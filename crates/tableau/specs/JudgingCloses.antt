@@ -11,7 +11,8 @@ use Rattle.pattern.specs.Checks.Finding.{Finding, found, refused, passes, refuse
 use Rattle.pattern.specs.Checks.Tests.{or_is_false}
 use Rattle.pattern.specs.File.Types.{max_name}
 use Rattle.pattern.specs.File.Reading.{count_of, pattern_check}
-use Rattle.pattern.specs.File.Valid.{Valid, passes_valid, valid_passes}
+use Rattle.pattern.specs.File.Valid.{Valid}
+use Rattle.pattern.proofs.File.Valid.{passes_valid, valid_passes}
 use Rattle.pattern.specs.Meaning.Names.{uses_name}
 use Rattle.lines.specs.declared.line.Line.{Line}
 use Rattle.steps.specs.declared.step.Step.{Step}

@@ -11,7 +11,8 @@ use Rattle.std.proofs.Math.ListN.{drop, length-replicate}
 use Rattle.std.proofs.Math.Seq.{drop-length}
 use Rattle.wire.specs.Choice.{pick}
 use Rattle.wire.specs.Blocks.{put_from}
-use Rattle.wire.specs.Onto.{onto, onto_more}
+use Rattle.wire.specs.Onto.{onto}
+use Rattle.wire.proofs.Onto.{onto_more}
 use Rattle.text_cells.specs.declared.letters.Made.{Made}
 use Rattle.text_cells.specs.declared.letters.Marks.{Marks}
 use Rattle.text_cells.specs.Building.{made_by, marks_by, State, with_cell, with_marks, taken_word, built_from, start, built_of}

@@ -4,7 +4,8 @@ use Rattle.std.specs.Prelude.{◌≡◌, refl, Bool, true, false, List, [], ◌�
 use Rattle.std.proofs.Common.{sym, ap, subst, ◌∙◌, append_assoc, add-zero, zero-add, arith, lt-ltb, le-ltb, length-append, get_or-append-add}
 use Rattle.wire.specs.Choice.{pick}
 use Rattle.wire.specs.Blocks.{put_from}
-use Rattle.wire.specs.Onto.{onto, onto_more}
+use Rattle.wire.specs.Onto.{onto}
+use Rattle.wire.proofs.Onto.{onto_more}
 use Rattle.typed_file.specs.Entries.{Entry, same_entry, Found, at, nowhere, found_or, find_from, entry_bytes}
 
 abbrev pub entry_of : ℕ → ℕ → ℕ → ℕ → Entry

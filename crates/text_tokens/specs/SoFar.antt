@@ -4,7 +4,8 @@ use Rattle.std.specs.Prelude.{◌≡◌, refl, Bool, true, false, List, [], ◌�
 use Rattle.std.proofs.Common.{sym, ap, ◌∙◌, append-nil, add-one, arith, length-drop, drop_of_length-le, take-append-drop, drop-cons, drop-drop, ltb-true, ltb-false, lt-ltb, ne_eqb}
 use Rattle.std.proofs.lemmas.List.{length-map}
 use Rattle.wire.specs.Choice.{pick}
-use Rattle.wire.specs.Onto.{onto, onto_more}
+use Rattle.wire.specs.Onto.{onto}
+use Rattle.wire.proofs.Onto.{onto_more}
 use Rattle.pattern.specs.Checks.Finding.{Check, passes, refuses, refuses_if, ◌then◌, found, refused, unless}
 use Rattle.typed_text.specs.Text.{is_digit}
 use Rattle.typed_text.specs.Tokens.{limit_of, range_check}

@@ -2,13 +2,14 @@
 -- Assumes nothing.
 use Rattle.std.specs.Prelude.{◌≡◌, refl, Bool, true, false, ◌||◌, ◌↔◌, List, [], ◌∷◌, ℕ, zero, suc, ◌+◌, ◌-◌, ◌≤◌, ◌<◌, ltb, length, take}
 use Rattle.std.proofs.Common.{sym, ap, subst, ◌∙◌, inl, inr, arith, lt-ltb, le-ltb, ltb-true, ltb-false, length-append}
-use Rattle.wire.specs.Onto.{onto, take_onto}
+use Rattle.wire.specs.Onto.{onto}
+use Rattle.wire.proofs.Onto.{take_onto}
 use Rattle.pattern.specs.Logic.Semantics.{Model, Naming, Holds}
 use Rattle.pattern.specs.Logic.Finite.{model_of, naming_of}
 use Rattle.pattern.specs.Checks.Finding.{Finding, found, refused, Check, passes, refuses, refuses_if, ◌then◌, unless, onward, written, destination_after}
 use Rattle.pattern.specs.File.Entries.{max_entries}
 use Rattle.pattern.specs.File.Reading.{reading_of}
-use Rattle.pattern.specs.File.Valid.{valid_read}
+use Rattle.pattern.proofs.File.Valid.{valid_read}
 use Rattle.pattern.specs.Meaning.Expression.{root_of}
 use Rattle.typed_text.specs.Text.{NodeText, node}
 use Rattle.typed_text.specs.Fault.{FaultAt, at_byte, at_the_end, Parsed, whole, faulty}

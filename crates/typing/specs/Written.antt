@@ -10,7 +10,8 @@ use Rattle.std.proofs.Math.Seq.{length_front}
 use Rattle.wire.specs.Choice.{pick}
 use Rattle.wire.specs.Blocks.{put_from}
 use Rattle.wire.specs.Cleared.{front_length}
-use Rattle.wire.specs.Onto.{onto, onto_front, onto_more, take_onto}
+use Rattle.wire.specs.Onto.{onto}
+use Rattle.wire.proofs.Onto.{onto_front, onto_more, take_onto}
 use Rattle.pattern.specs.Checks.Finding.{Finding, found, refused, passes, refuses_if, unless, found_passes, refused_refuses}
 use Rattle.pattern.specs.File.Entries.{max_entries}
 use Rattle.typed_text.specs.Text.{NodeText, node}

@@ -4,7 +4,8 @@ use Rattle.std.proofs.Common.{◌≡◌, refl, sym, ◌∙◌, ap, ℕ, length, 
 use Rattle.wire.specs.Cleared.{cleared, front_length, cleared_front}
 use Rattle.pattern.specs.Checks.Finding.{found, passes}
 use Rattle.pattern.specs.File.Reading.{pattern_check}
-use Rattle.pattern.specs.File.Valid.{valid_read, read_passes}
+use Rattle.pattern.specs.File.Valid.{read_passes}
+use Rattle.pattern.proofs.File.Valid.{valid_read}
 use Rattle.model_records.specs.declared.Order.{Order}
 use Rattle.model.specs.Judging.{area_need, judging_check, Allowed, area_decides, model_decides, checks_pass, judging_finds, judging_refuses, root_judged}
 use Rattle.model_judge.specs.Checked.{check_of}

@@ -5,7 +5,8 @@ use Rattle.pattern.specs.declared.entry.Entry.{Entry}
 use Rattle.pattern.specs.Checks.Range.{some_below, some_next}
 use Rattle.pattern.specs.File.Types.{max_name}
 use Rattle.pattern.specs.File.Reading.{count_of}
-use Rattle.pattern.specs.File.Valid.{Valid, valid}
+use Rattle.pattern.specs.File.Valid.{Valid}
+use Rattle.pattern.proofs.File.Valid.{valid}
 use Rattle.pattern.specs.Meaning.Names.{bears_name, has_name, entry_uses, uses_name, name_at}
 use Rattle.names.specs.Set.{has, has_none}
 use Rattle.names.proofs.used_names.Goals.{Start}

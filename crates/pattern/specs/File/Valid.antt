@@ -1,7 +1,7 @@
 -- A valid pattern file: header and root as facts, ranges and references by reading's own tests, which `within_at` and `refers_at` say as facts.
 -- Assumes nothing.
 use Rattle.std.specs.Prelude.{◌≡◌, refl, Bool, true, false, not, ◌||◌, ◌⊎◌, ◌↔◌, List, ℕ, ◌+◌, ◌-◌, ◌*◌, ◌≤◌, ◌<◌, length, ltb, eqb}
-use Rattle.std.proofs.Common.{sym, ◌∙◌, ap, subst, inl, inr, arith}
+use Rattle.std.proofs.Common.{inl, inr, arith}
 use Rattle.std.proofs.Math.Bool.{or-true}
 use borrow.Author.Tests.{eqb-false, ltb-false, ne_eqb, le-ltb, ltb-true, leb-true, eqb-true, not-false, lt-ltb, le-leb, eq-eqb}
 use Rattle.wire.specs.Choice.{pick}
@@ -11,10 +11,9 @@ use Rattle.pattern.specs.declared.table.Field.{Field}
 use Rattle.pattern.specs.Checks.Tests.{or_is_false, or_is_true}
 use Rattle.pattern.specs.File.Types.{max_name, max_property, max_axis, max_channel}
 use Rattle.pattern.specs.Checks.Finding.{found, refused, passes, refuses, ◌then◌, then_passes, refuses_if_passes, found_passes, refused_refuses}
-use Rattle.pattern.specs.Checks.Range.{each_below, each_at, each_below_law, none_at, none_below}
-use Rattle.pattern.specs.File.Table.{end_of_path, is_node, is_path, is_neither}
+use Rattle.pattern.specs.File.Table.{end_of_path, is_node, is_path}
 use Rattle.pattern.specs.File.Entries.{max_entries, entry_at, same_bytes}
-use Rattle.pattern.specs.File.Reading.{mark, count_of, in_range, sort_at, earlier_sort, refers_back, repeats_at, header_check, kind_check, field_check, reference_check, repeat_check, entry_check, root_check, pattern_check, reading_of, mark_check, version_check, count_check}
+use Rattle.pattern.specs.File.Reading.{mark, count_of, in_range, sort_at, earlier_sort, refers_back, header_check, pattern_check, reading_of, mark_check, version_check, count_check}
 use Rattle.pattern.specs.File.Fields.{each_field, OfFields, OfReference, OfReferences, each_field_law}
 
 -- a header that meets the checks 1 to 3
@@ -73,43 +72,6 @@ header_accepted bs h =
       eq-eqb _ _ h.length_is,
     )
 
-sort_known : (s : Sort) → is_neither s ≡ false → (s ≡ Sort.Node) ⊎ (s ≡ Sort.Path)
-sort_known Sort.Node h = inl refl
-sort_known Sort.Path h = inr refl
-sort_known Sort.Neither h = inl cc
-
-known_sort : (s : Sort) → (s ≡ Sort.Node) ⊎ (s ≡ Sort.Path) → is_neither s ≡ false
-known_sort s (inl e) = ap is_neither e
-known_sort s (inr e) = ap is_neither e
-
-not_path : (s : Sort) → (s ≡ Sort.Node) ⊎ (s ≡ Sort.Path) → is_path s ≡ false → s ≡ Sort.Node
-not_path s (inl e) h = e
-not_path s (inr e) h = let z : true ≡ false = ap is_path (sym e) ∙ h in cc
-
-module _ (bs : List ℕ) (k : ℕ) where
-  entry_passes : entry_check bs k ≡ passes → ValidEntry bs k
-  unfolding entry_check
-  entry_passes h =
-      let a = then_passes (kind_check bs k) (field_check bs k then reference_check bs k then repeat_check bs k) h in
-      let b = then_passes (field_check bs k) (reference_check bs k then repeat_check bs k) a.1 in
-      let c = then_passes (reference_check bs k) (repeat_check bs k) b.1 in
-      record {
-        sorted = sort_known (sort_at bs k) (refuses_if_passes _ 4 k a.0);
-        within_ranges = not-false _ (refuses_if_passes _ 5 k b.0);
-        refers_back_law = not-false _ (refuses_if_passes _ 6 k c.0);
-        different = λ j l. none_at (λ i. same_bytes bs i k) k j (refuses_if_passes (repeats_at bs k) 7 k c.1) l;
-      }
-
-  entry_accepted : ValidEntry bs k → entry_check bs k ≡ passes
-  unfolding entry_check
-  entry_accepted h =
-      rw (
-        known_sort (sort_at bs k) h.sorted,
-        h.within_ranges,
-        h.refers_back_law,
-        none_below (λ i. same_bytes bs i k) k h.different,
-      )
-
 -- ---- what a finding of reading says of the checks 1 to 8, which every judgement begins with
 pub read_passes : (bs : List ℕ) (n : ℕ) → reading_of bs ≡ found n → (pattern_check bs ≡ passes) × (count_of bs ≡ n)
 unfolding reading_of
@@ -118,41 +80,6 @@ read_passes bs n h = found_passes (pattern_check bs) (count_of bs) n h
 pub read_refuses : (bs : List ℕ) (number place : ℕ) → reading_of bs ≡ refused number place → pattern_check bs ≡ refuses number place
 unfolding reading_of
 read_refuses bs number place h = refused_refuses (pattern_check bs) (count_of bs) number place h
-
--- a pattern that was read is valid
-pub valid : (bs : List ℕ) (n : ℕ) → reading_of bs ≡ found n → Valid bs n
-unfolding pattern_check root_check
-valid bs n h =
-    let r = read_passes bs n h in
-    let a = then_passes (header_check bs) (each_below (count_of bs) (entry_check bs) then root_check bs) r.0 in
-    let b = then_passes (each_below (count_of bs) (entry_check bs)) (root_check bs) a.1 in
-    subst (λ (m : ℕ). Valid bs m) r.1 (from_checks (header_passes bs a.0) b.0 b.1)
-  where
-    from_checks : ValidHeader bs → each_below (count_of bs) (entry_check bs) ≡ passes → root_check bs ≡ passes → Valid bs (count_of bs)
-    from_checks header each root =
-        let entries : (k : ℕ) → k < count_of bs → ValidEntry bs k = λ k l. entry_passes bs k (each_at (entry_check bs) (count_of bs) k each l) in
-        record {
-          header = header;
-          count_is = refl;
-          entries = entries;
-          root_node = not_path _ (entries (count_of bs - 1) (omega (arith, header.some_entry))).sorted (refuses_if_passes _ 8 (count_of bs - 1) root);
-        }
-
--- a valid pattern is read
-pub valid_read : (bs : List ℕ) (n : ℕ) → Valid bs n → reading_of bs ≡ found n
-unfolding reading_of pattern_check root_check
-valid_read bs n h =
-    let count = h.count_is in
-    rw
-    (header_accepted bs h.header, count, each_below_law (entry_check bs) n (λ k l. entry_accepted bs k (h.entries k l)), h.root_node)
-
--- the checks 1 to 8 pass exactly where the pattern is valid
-pub passes_valid : (bs : List ℕ) → pattern_check bs ≡ passes → Valid bs (count_of bs)
-unfolding reading_of
-passes_valid bs h = valid bs (count_of bs) (rw h)
-
-pub valid_passes : (bs : List ℕ) (n : ℕ) → Valid bs n → pattern_check bs ≡ passes
-valid_passes bs n ok = (read_passes bs n (valid_read bs n ok)).0
 
 -- ---- what a valid pattern says of the fields of an entry
 

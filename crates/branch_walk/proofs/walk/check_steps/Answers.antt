@@ -1,7 +1,7 @@
 -- `branch_walk::walk::check_steps` meets its contract: the walk begins on line 0, and the area is cleared.
 -- Assumes nothing.
 use Rattle.std.proofs.Common.{rules, ◌∙◌, ap, arith}
-use Rattle.pattern.specs.File.Valid.{valid}
+use Rattle.pattern.proofs.File.Valid.{valid}
 use Rattle.names.specs.Set.{numbers_back}
 use Rattle.branch_end.specs.Ends.{finished}
 use Rattle.branch_walk.specs.WalkLaws.{first_lent, none_bounded, walk_finishes, finished_clears}

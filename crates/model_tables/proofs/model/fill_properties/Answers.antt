@@ -1,7 +1,7 @@
 -- `model_tables::model::fill_properties` meets its contract: the rows of the entries passed are made, by `made_more`.
 -- Assumes nothing.
 use Rattle.std.proofs.Common.{rules, arith, ℕ, refl, ◌∙◌, subst, below_none}
-use Rattle.pattern.specs.File.Valid.{valid}
+use Rattle.pattern.proofs.File.Valid.{valid}
 use Rattle.model_tables.specs.Entries.{MadeBelow, made_more}
 use Rattle.model_tables.specs.Tables.{PropertyMade, is_property, property_within}
 use Rattle.model_tables.proofs.model.fill_properties.Goals as goal

@@ -2,7 +2,7 @@
 -- Assumes nothing.
 use Rattle.std.proofs.Common.{arith}
 use Rattle.pattern.specs.File.Reading.{count_of}
-use Rattle.pattern.specs.File.Valid.{valid}
+use Rattle.pattern.proofs.File.Valid.{valid}
 use Rattle.model_tables.specs.Tables.{tabled}
 use Rattle.model_tables.proofs.model.tabulate.Goals as goal
 

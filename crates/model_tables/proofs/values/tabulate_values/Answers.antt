@@ -1,7 +1,7 @@
 -- `model_tables::values::tabulate_values` meets its contract: the channels of the entries passed are made, by `made_more`.
 -- Assumes nothing.
 use Rattle.std.proofs.Common.{rules, arith, ℕ, subst, below_none}
-use Rattle.pattern.specs.File.Valid.{valid}
+use Rattle.pattern.proofs.File.Valid.{valid}
 use Rattle.model_tables.specs.Entries.{MadeBelow, made_more}
 use Rattle.model_tables.specs.Values.{ChannelMade, is_comparison, channel_within, none_made, alike_made}
 use Rattle.model_tables.proofs.values.tabulate_values.Goals as goal

@@ -2,7 +2,7 @@
 -- Assumes nothing.
 use Rattle.std.proofs.Common.{rules, ◌≡◌, sym, ◌∙◌, ap, ◌+◌, arith}
 use Rattle.pattern.specs.File.Reading.{count_of}
-use Rattle.pattern.specs.File.Valid.{valid}
+use Rattle.pattern.proofs.File.Valid.{valid}
 use Rattle.slots.specs.Area.{place_of, place_first, place_next, nodes_few}
 use Rattle.slots.proofs.area.node_entries.Goals.{After-one_node-found}
 use Rattle.slots.proofs.area.node_entries.Goals as goal

@@ -1,7 +1,7 @@
 -- `slots::uses::last_uses` stays within the pattern and its own bytes.
 -- Assumes nothing.
 use Rattle.std.proofs.Common.{le_refl, arith}
-use Rattle.pattern.specs.File.Valid.{valid}
+use Rattle.pattern.proofs.File.Valid.{valid}
 use Rattle.slots.proofs.uses.last_uses.Goals as goal
 
 pub bounds-p-5 : goal.bounds-p-5

@@ -1,7 +1,7 @@
 -- `slots::uses::path_count` stays within the pattern.
 -- Assumes nothing.
 use Rattle.std.proofs.Common.{rules, refl, arith}
-use Rattle.pattern.specs.File.Valid.{valid}
+use Rattle.pattern.proofs.File.Valid.{valid}
 use Rattle.slots.proofs.uses.path_count.Goals as goal
 
 pub bounds-p-5 : goal.bounds-p-5

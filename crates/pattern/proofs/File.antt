@@ -1,0 +1,2 @@
+-- The laws of reading that rest on all of its checks.
+pub mod Valid

@@ -1,0 +1,3 @@
+-- The laws of the logic that rest on its clause for comparisons of different data.
+pub mod Compared
+pub mod Part
