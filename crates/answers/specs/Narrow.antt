@@ -40,7 +40,8 @@ use Rattle.branch_walk.specs.WalkLaws.{none_bounded}
 use Rattle.tableau.specs.JudgingCloses as closure
 use Rattle.tableau.specs.Judging as tableau
 use Rattle.typing.specs.Typing.{typing_of}
-use Rattle.typing.specs.Findings.{Small, typing_small}
+use Rattle.typing.specs.Findings.{Small}
+use Rattle.typing.proofs.Findings.{typing_small}
 
 -- the number is one of 14 bits
 abbrev pub Narrow : ℕ → Type 0

@@ -44,9 +44,9 @@ use Rattle.tableau.specs.Soundness.{excludes}
 use Rattle.typed_text.specs.Text as texts
 use Rattle.typed_text.specs.Text.{Numeral, NodeText, RowText}
 use Rattle.typed_text.specs.Machine.{place_of, fault}
-use Rattle.typed_text.specs.Viable.{place_faulty}
+use Rattle.typed_text.proofs.Viable.{place_faulty}
 use Rattle.typing.specs.Typing as typing
-use Rattle.typing.specs.Findings.{typing_long, typing_text, typing_fault}
+use Rattle.typing.proofs.Findings.{typing_long, typing_text, typing_fault}
 use Rattle.wire.specs.Fields.{text}
 use Rattle.wire.specs.Onto.{onto}
 use Rattle.wire.specs.Cleared.{cleared}

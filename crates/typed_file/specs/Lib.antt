@@ -7,4 +7,3 @@ pub mod ValidEntries
 pub mod RootLast
 pub mod ValidFile
 pub mod Carried
-pub mod Meaning

@@ -1,5 +1,5 @@
 -- An automaton with a stack that goes through a text byte by byte: what may come next, and the place where nothing may. The code goes by it;
--- that its place is the one that `FaultAt` says is `Viable`'s law.
+-- that its place is the one that `FaultAt` says is a law of `proofs/Viable`.
 -- Assumes nothing.
 use Rattle.std.specs.Prelude.{◌≡◌, refl, Bool, true, false, ◌&&◌, ◌||◌, List, [], ◌∷◌, ◌++◌, ◌⊎◌, ℕ, ◌+◌, eqb}
 use Rattle.std.proofs.Common.{sym, ◌∙◌, ap, subst, inl, inr, eqb-true}

@@ -1,14 +1,14 @@
--- What the automaton accepts is a text, and where it stops is the first byte, or the end, that no text of the grammar has there. So bytes are
--- either a text or outside the grammar, at one place.
+-- What the automaton accepts is a text, and where it can go on, what was read begins one. That the place where it stops is the first byte,
+-- or the end, that no text of the grammar has there is proved in `proofs/Viable`.
 -- Assumes nothing.
-use Rattle.std.specs.Prelude.{◌≡◌, refl, Bool, true, false, ◌||◌, ◌⊎◌, List, [], ◌∷◌, ◌++◌, ℕ, ◌+◌, ◌<◌, eqb, ltb, length}
-use Rattle.std.proofs.Common.{sym, ◌∙◌, ap, subst, inl, inr, append_assoc, append-nil, arith, length-append, eqb-true, ltb-true, ltb-false}
+use Rattle.std.specs.Prelude.{◌≡◌, refl, Bool, true, false, ◌||◌, ◌⊎◌, List, [], ◌∷◌, ◌++◌, ℕ, ◌<◌, eqb, length}
+use Rattle.std.proofs.Common.{sym, ◌∙◌, ap, subst, inl, inr, append_assoc, append-nil, arith, length-append, eqb-true}
 use Rattle.std.proofs.lemmas.Bool.{false≢true}
 use Rattle.wire.specs.Choice.{pick}
 use Rattle.typed_text.specs.Text.{is_digit, begins_number, all_digits, Numeral, nought, from, spell_number, NodeText, RowText, IsText}
 use Rattle.typed_text.specs.Text as text
-use Rattle.typed_text.specs.Fault.{Begins, FaultAt, Parsed}
-use Rattle.typed_text.specs.Machine.{Want, node, row, number, digits, byte, one_of, Next, none, some, node_takes, row_takes, put_on, next, all_optional, Place, whole, fault, end_place, next_place, place_from, place_of, accepts_from, accepts, text_accepted}
+use Rattle.typed_text.specs.Fault.{Begins, FaultAt}
+use Rattle.typed_text.specs.Machine.{Want, node, row, number, digits, byte, one_of, Next, none, some, node_takes, row_takes, put_on, next, all_optional, Place, whole, fault, accepts_from, text_accepted}
 
 -- xs is spelled by what is wanted, in order
 abbrev pub Reads : List Want → List ℕ → Type 0
@@ -21,7 +21,7 @@ Reads (byte c ∷ ws) xs = (ys : List ℕ) × ((xs ≡ c ∷ ys) × Reads ws ys)
 Reads (one_of c d ∷ ws) xs = (ys : List ℕ) × (((xs ≡ c ∷ ys) ⊎ (xs ≡ d ∷ ys)) × Reads ws ys)
 
 -- nothing more is wanted
-reads_nothing : (ws : List Want) → all_optional ws ≡ true → Reads ws []
+pub reads_nothing : (ws : List Want) → all_optional ws ≡ true → Reads ws []
 reads_nothing [] h = refl
 reads_nothing (node ∷ ws) h = absurd (false≢true h)
 reads_nothing (row ∷ ws) h = (RowText.end, ([], (refl, reads_nothing ws h)))
@@ -129,7 +129,7 @@ run_none [] = refl
 run_none (x ∷ xs) = refl
 
 -- accepting goes by the run
-accepts_run : (xs ys : List ℕ) (n : Next) → accepts_from (xs ++ ys) n ≡ accepts_from ys (run_from xs n)
+pub accepts_run : (xs ys : List ℕ) (n : Next) → accepts_from (xs ++ ys) n ≡ accepts_from ys (run_from xs n)
 accepts_run [] ys n = refl
 accepts_run (x ∷ xs) ys none = sym (refused ys)
 accepts_run (x ∷ xs) ys (some ws) = accepts_run xs ys (next ws x)
@@ -162,72 +162,29 @@ reads_run (x ∷ xs) ys ws vs e r = go (next ws x) refl e (λ us h. reads_run xs
     go none f h rest = none_some vs (sym (run_none xs) ∙ h)
     go (some us) f h rest = reads_next ws us x (xs ++ ys) f (rest us h)
 
-reads_text : (xs : List ℕ) → Reads (node ∷ []) xs → IsText xs
+pub reads_text : (xs : List ℕ) → Reads (node ∷ []) xs → IsText xs
 reads_text xs r = (r.0, sym (r.1.1.0 ∙ ap (text.node r.0) r.1.1.1))
 
 -- ---- the place of a fault
-run_append : (ps : List ℕ) (b : ℕ) (n : Next) (ws : List Want) → run_from ps n ≡ some ws → run_from (ps ++ (b ∷ [])) n ≡ next ws b
+pub run_append : (ps : List ℕ) (b : ℕ) (n : Next) (ws : List Want) → run_from ps n ≡ some ws → run_from (ps ++ (b ∷ [])) n ≡ next ws b
 run_append [] b none ws e = none_some ws e
 run_append [] b (some us) ws e = ap (λ (l : List Want). next l b) (some_is us ws e)
 run_append (p ∷ ps) b none ws e = none_some ws e
 run_append (p ∷ ps) b (some us) ws e = run_append ps b (next us p) ws e
 
 -- bytes after which nothing can come begin no text
-stuck : (ps : List ℕ) → run_from ps (some (node ∷ [])) ≡ none → Begins ps → ⊥
+pub stuck : (ps : List ℕ) → run_from ps (some (node ∷ [])) ≡ none → Begins ps → ⊥
 stuck ps e (ys, t) = false≢true (sym (refused ys) ∙ (sym (ap (accepts_from ys) e) ∙ (sym (accepts_run ps ys (some (node ∷ []))) ∙ text_accepted (ps ++ ys) t)))
 
-begins : (ps : List ℕ) (ws : List Want) → run_from ps (some (node ∷ [])) ≡ some ws → Begins ps
+pub begins : (ps : List ℕ) (ws : List Want) → run_from ps (some (node ∷ [])) ≡ some ws → Begins ps
 begins ps ws e = (finish ws, reads_text (ps ++ finish ws) (reads_run ps (finish ws) (node ∷ []) ws e (reads_finish ws)))
 
 -- what the place says
-abbrev Says : List ℕ → Place → Type 0
+abbrev pub Says : List ℕ → Place → Type 0
 Says xs whole = IsText xs
 Says xs (fault k) = FaultAt xs k
 
-pub place_says : (bs ps : List ℕ) (ws : List Want) → run_from ps (some (node ∷ [])) ≡ some ws → Says (ps ++ bs) (place_from bs ws (length ps))
-place_says [] ps ws e = go (all_optional ws) refl
-  where
-    all : ps ++ [] ≡ ps
-    all = append-nil ps
-
-    accepted : accepts (node ∷ []) ps ≡ all_optional ws
-    accepted = ap (accepts (node ∷ [])) (sym all) ∙ (accepts_run ps [] (some (node ∷ [])) ∙ ap (accepts_from []) e)
-
-    go : (t : Bool) → all_optional ws ≡ t → Says (ps ++ []) (end_place t (length ps))
-    go true f = reads_text (ps ++ []) (reads_run ps [] (node ∷ []) ws e (reads_nothing ws f))
-    go false f = rw all (FaultAt.at_the_end (begins ps ws e) (λ t. false≢true (sym (accepted ∙ f) ∙ text_accepted ps t)))
-place_says (b ∷ bs) ps ws e = go (next ws b) refl (λ vs h. place_says bs (ps ++ (b ∷ [])) vs (run_append ps b (some (node ∷ [])) ws e ∙ h))
-  where
-    go : (n : Next) → next ws b ≡ n
-        → ((vs : List Want) → next ws b ≡ some vs → Says ((ps ++ (b ∷ [])) ++ bs) (place_from bs vs (length (ps ++ (b ∷ [])))))
-        → Says (ps ++ (b ∷ bs)) (next_place n (length ps) (λ vs. place_from bs vs (length ps + 1)))
-    go none f rest = FaultAt.at_byte ps b bs refl (begins ps ws e) (stuck (ps ++ (b ∷ [])) (run_append ps b (some (node ∷ [])) ws e ∙ f))
-    go (some vs) f rest =
-        subst (λ (k : ℕ). Says (ps ++ (b ∷ bs)) (place_from bs vs k)) longer
-        (subst (λ (l : List ℕ). Says l (place_from bs vs (length (ps ++ (b ∷ []))))) (append_assoc ps (b ∷ []) bs) (rest vs f))
-      where
-        longer : length (ps ++ (b ∷ [])) ≡ length ps + 1
-        longer = length-append ps (b ∷ []) ∙ omega arith
-
--- the text passes exactly where it is one, and otherwise the place is the one that the words say
-pub place_is : (xs : List ℕ) → Says xs (place_of xs)
-place_is xs = place_says xs [] (node ∷ []) refl
-
-says_parsed : (xs : List ℕ) (p : Place) → Says xs p → Parsed xs
-says_parsed xs whole (t, e) = Parsed.whole t e
-says_parsed xs (fault k) f = Parsed.faulty k f
-
--- bytes are a text or outside the grammar
-pub parse : (xs : List ℕ) → Parsed xs
-parse xs = says_parsed xs (place_of xs) (place_is xs)
-
-pub place_faulty : (xs : List ℕ) (k : ℕ) → place_of xs ≡ fault k → FaultAt xs k
-place_faulty xs k e = subst (Says xs) e (place_is xs)
-
-pub place_whole : (xs : List ℕ) → place_of xs ≡ whole → IsText xs
-place_whole xs e = subst (Says xs) e (place_is xs)
-
--- ---- there is one place, and no text has one
+-- ---- no text has such a place
 
 text_begins : (xs : List ℕ) → IsText xs → Begins xs
 text_begins xs t = ([], rw append-nil t)
@@ -248,30 +205,10 @@ longer_has (p ∷ ps) (q ∷ qs) b zs ys e l =
     (r.0, (λ k. h k ∷ r.1 k))
 
 -- bytes that begin a text don't begin one of which a byte among them is the fault
-no_later : (ps qs : List ℕ) (b : ℕ) (zs ys : List ℕ) → ps ++ (b ∷ zs) ≡ qs ++ ys → length ps < length qs → Begins qs → (Begins (ps ++ (b ∷ [])) → ⊥) → ⊥
+pub no_later : (ps qs : List ℕ) (b : ℕ) (zs ys : List ℕ) → ps ++ (b ∷ zs) ≡ qs ++ ys → length ps < length qs → Begins qs → (Begins (ps ++ (b ∷ [])) → ⊥) → ⊥
 no_later ps qs b zs ys e l some_text no_text =
     let r = longer_has ps qs b zs ys e l in
     no_text (begins_less (ps ++ (b ∷ [])) r.0 (rw append_assoc (rw r.1 at some_text)))
-
-same_length : (m n : ℕ) → (m < n → ⊥) → (n < m → ⊥) → m ≡ n
-same_length m n f g = go (ltb m n) refl (ltb n m) refl
-  where
-    go : (s : Bool) → ltb m n ≡ s → (t : Bool) → ltb n m ≡ t → m ≡ n
-    go true e t h = absurd (f (ltb-true m n e))
-    go false e true h = absurd (g (ltb-true n m h))
-    go false e false h = omega (arith, ltb-false m n e, ltb-false n m h)
-
-once : {xs : List ℕ} {j k : ℕ} → FaultAt xs j → FaultAt xs k → j ≡ k
-once (FaultAt.at_byte ps b zs e s n) (FaultAt.at_byte qs c ys f t m) =
-    same_length (length ps) (length qs) (λ l. no_later ps qs b zs (c ∷ ys) (sym e ∙ f) l t n) (λ l. no_later qs ps c ys (b ∷ zs) (sym f ∙ e) l s m)
-once {xs} (FaultAt.at_byte ps b zs e s n) (FaultAt.at_the_end t m) =
-    absurd (no_later ps xs b zs [] (sym e ∙ sym (append-nil xs)) (omega (arith, ap length e, length-append ps (b ∷ zs))) t n)
-once {xs} (FaultAt.at_the_end s n) (FaultAt.at_byte ps b zs e t m) =
-    absurd (no_later ps xs b zs [] (sym e ∙ sym (append-nil xs)) (omega (arith, ap length e, length-append ps (b ∷ zs))) s m)
-once (FaultAt.at_the_end s n) (FaultAt.at_the_end t m) = refl
-
-pub fault_once : (xs : List ℕ) (j k : ℕ) → FaultAt xs j → FaultAt xs k → j ≡ k
-fault_once xs j k f g = once f g
 
 no_text : {xs : List ℕ} {k : ℕ} → FaultAt xs k → IsText xs → ⊥
 no_text {xs} (FaultAt.at_byte ps b zs e s n) t =

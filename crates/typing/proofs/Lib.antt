@@ -1,1 +1,2 @@
 pub mod Everywhere
+pub mod Findings

@@ -11,7 +11,7 @@ use Rattle.typed_text.specs.Text.{NodeText, node}
 use Rattle.typed_text.specs.Fault.{FaultAt, Parsed, whole, faulty}
 use Rattle.typed_text.specs.Tokens.{tokens_of, range_check}
 use Rattle.typed_text.specs.Means.{node_means}
-use Rattle.typed_text.specs.Viable.{parse}
+use Rattle.typed_text.proofs.Viable.{parse}
 use Rattle.typed_file.specs.Trees.{node_tree}
 use Rattle.typed_file.specs.Entries.{Entry, entries_of, file_of}
 use Rattle.typing.specs.declared.finding.TypeRefusal.{TypeRefusal}

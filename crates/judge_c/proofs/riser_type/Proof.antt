@@ -7,7 +7,7 @@ use borrow.Fn.World.{World}
 use borrow.Fn.Written as closing
 use borrow.Author.Rules.{rules}
 use Rattle.typing.proofs.Everywhere.{held}
-use Rattle.typing.specs.Findings.{typed_everywhere}
+use Rattle.typing.proofs.Findings.{typed_everywhere}
 use Rattle.judge_c.proofs.riser_type.Statement.{statement}
 use Rattle.judge_c.proofs.riser_type.Tie as tie
 use Rattle.judge_c.proofs.riser_type.Lts as lts

@@ -9,9 +9,9 @@ use borrow.Fn.World.{World}
 use borrow.Fn.Written as closing
 use borrow.Author.Rules.{rules}
 use Rattle.pattern.specs.Checks.Finding.{Finding, written, destination_after}
-use Rattle.typed_text.specs.Viable.{place_faulty, place_whole}
+use Rattle.typed_text.proofs.Viable.{place_faulty, place_whole}
 use Rattle.text_tokens.specs.Stack.{grammar_of}
-use Rattle.typing.specs.Findings.{typing_long, typing_text, typing_fault, promise, typed_everywhere}
+use Rattle.typing.proofs.Findings.{typing_long, typing_text, typing_fault, promise, typed_everywhere}
 use Rattle.typing.proofs.Everywhere.{held}
 use Rattle.typing.proofs.type_pattern.Statement.{statement}
 use Rattle.typing.proofs.type_pattern.Tie as tie

@@ -7,7 +7,7 @@ use borrow.Fn.World.{World}
 use borrow.Fn.Written as closing
 use borrow.Author.Rules.{rules}
 use Rattle.typing.specs.Typing.{finding_of}
-use Rattle.typing.specs.Findings.{typed_everywhere}
+use Rattle.typing.proofs.Findings.{typed_everywhere}
 use Rattle.judge.specs.Told.{type_told}
 use Rattle.typing.proofs.Everywhere.{held}
 use Rattle.judge.proofs.exports.riser_type.Statement.{statement}
