@@ -292,14 +292,14 @@ clashes = 0
 abbrev of_p : ℕ → ℕ → (List ℕ → Line → Outcome) → Rule
 of_p n s f = record { number = n; side_count = s; uses_q = false; uses_argument = false; outcome = λ bs P Q a. f bs P }
 
-abbrev of_pQ : ℕ → ℕ → (List ℕ → Line → Line → Outcome) → Rule
-of_pQ n s f = record { number = n; side_count = s; uses_q = true; uses_argument = false; outcome = λ bs P Q a. f bs P Q }
+abbrev of_p_q : ℕ → ℕ → (List ℕ → Line → Line → Outcome) → Rule
+of_p_q n s f = record { number = n; side_count = s; uses_q = true; uses_argument = false; outcome = λ bs P Q a. f bs P Q }
 
-abbrev of_pArgument : ℕ → ℕ → (List ℕ → Line → ℕ → Outcome) → Rule
-of_pArgument n s f = record { number = n; side_count = s; uses_q = false; uses_argument = true; outcome = λ bs P Q a. f bs P a }
+abbrev of_p_argument : ℕ → ℕ → (List ℕ → Line → ℕ → Outcome) → Rule
+of_p_argument n s f = record { number = n; side_count = s; uses_q = false; uses_argument = true; outcome = λ bs P Q a. f bs P a }
 
-abbrev of_pQArgument : ℕ → ℕ → (List ℕ → Line → Line → ℕ → Outcome) → Rule
-of_pQArgument n s f = record { number = n; side_count = s; uses_q = true; uses_argument = true; outcome = f }
+abbrev of_p_q_argument : ℕ → ℕ → (List ℕ → Line → Line → ℕ → Outcome) → Rule
+of_p_q_argument n s f = record { number = n; side_count = s; uses_q = true; uses_argument = true; outcome = f }
 
 -- P is a has/lacks line; e is the entry of its node
 abbrev pub on_node : (HasLine → Entry → Outcome) → List ℕ → Line → Outcome
@@ -318,8 +318,8 @@ rules =
     ∷ of_p 2 grows (on_node rule2)
     ∷ of_p 3 forks (on_node rule3)
     ∷ of_p 4 grows (on_node rule4)
-    ∷ of_pArgument 5 grows (λ bs P a. on_node (λ h e. rule5 h e a) bs P)
-    ∷ of_pQ 6 grows (λ bs P Q. on_node (λ h e. rule6 h e Q) bs P)
+    ∷ of_p_argument 5 grows (λ bs P a. on_node (λ h e. rule5 h e a) bs P)
+    ∷ of_p_q 6 grows (λ bs P Q. on_node (λ h e. rule6 h e Q) bs P)
     ∷ of_p 7 grows (on_node rule7)
     ∷ of_p 8 grows (λ bs. on_compare rule8)
     ∷ of_p 9 grows (on_left rule9)
@@ -327,15 +327,15 @@ rules =
     ∷ of_p 11 forks (on_left rule11)
     ∷ of_p 12 forks (on_left rule12)
     ∷ of_p 13 grows (on_left rule13)
-    ∷ of_pArgument 14 grows (λ bs P a. on_left (λ l e. rule14 l e a) bs P)
-    ∷ of_pQ 15 grows (λ bs P Q. on_left (λ l e. rule15 l e Q) bs P)
+    ∷ of_p_argument 14 grows (λ bs P a. on_left (λ l e. rule14 l e a) bs P)
+    ∷ of_p_q 15 grows (λ bs P Q. on_left (λ l e. rule15 l e Q) bs P)
     ∷ of_p 16 grows (λ bs. on_compare rule16)
     ∷ of_p 17 grows (λ bs. on_is rule17)
-    ∷ of_pArgument 18 grows (λ bs P a. on_is (λ l. rule18 l a) P)
-    ∷ of_pQArgument 19 grows (λ bs P Q a. on_is (λ l. rule19 l Q a) P)
-    ∷ of_pQ 20 grows (λ bs P Q. on_compare (λ l. rule20 l Q) P)
-    ∷ of_pQ 21 clashes (λ bs. rule21)
-    ∷ of_pQ 22 clashes (λ bs P Q. on_compare (λ l. rule22 l Q) P)
+    ∷ of_p_argument 18 grows (λ bs P a. on_is (λ l. rule18 l a) P)
+    ∷ of_p_q_argument 19 grows (λ bs P Q a. on_is (λ l. rule19 l Q a) P)
+    ∷ of_p_q 20 grows (λ bs P Q. on_compare (λ l. rule20 l Q) P)
+    ∷ of_p_q 21 clashes (λ bs. rule21)
+    ∷ of_p_q 22 clashes (λ bs P Q. on_compare (λ l. rule22 l Q) P)
     ∷ of_p 23 clashes (λ bs. rule23)
     ∷ of_p 24 forks (on_node rule24)
     ∷ of_p 25 grows (on_node rule25)

@@ -1,9 +1,7 @@
 -- `text_cells::build` meets its contract: the numbers hold what the machine has made of the tokens passed.
 -- Assumes nothing.
 use Rattle.std.proofs.Common.{arith}
-
 use Rattle.text_cells.specs.Held.{going_start, going_on_law, going_end}
-
 use Rattle.text_cells.proofs.build.Goals as goal
 
 pub loop-i-init : goal.loop-i-init

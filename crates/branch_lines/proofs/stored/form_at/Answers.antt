@@ -1,9 +1,7 @@
 -- `branch_lines::stored::form_at` meets its contract: each arm is a clause of `form_of`.
 -- Assumes nothing.
 use Rattle.std.proofs.Common.{sym, ap}
-
 use Rattle.branch_lines.specs.Stored.{form_of}
-
 use Rattle.branch_lines.proofs.stored.form_at.Goals as goal
 
 pub returns-in-0 : goal.returns-in-0

@@ -53,9 +53,9 @@ rowed_of_compare t c =
 
 pub compare-compare_rows-requires : goal.compare-compare_rows-requires
 compare-compare_rows-requires t c = let r = rowed_of_compare t (goal.at.compare-compare_rows-requires t c).Then-is_held in record {
-      alike_rows_in_bounds = (c.requires.lent.alike_long, (fields_of_compare t (goal.at.compare-compare_rows-requires t c).After-at-e).0, c.requires.lent.narrow);
-      rows_fit = (rw c.row_of_path-first.ensures r.0.fits, rw c.row_of_path-second.ensures r.1.fits);
-    }
+  alike_rows_in_bounds = (c.requires.lent.alike_long, (fields_of_compare t (goal.at.compare-compare_rows-requires t c).After-at-e).0, c.requires.lent.narrow);
+  rows_fit = (rw c.row_of_path-first.ensures r.0.fits, rw c.row_of_path-second.ensures r.1.fits);
+}
 
 pub compare-returns-then-is_held : goal.compare-returns-then-is_held
 compare-returns-then-is_held t c = let a = c.args in
@@ -76,9 +76,9 @@ compare-ends-t-requires t c = let f = fields_of_compare t (goal.at.compare-ends-
 
 pub compare-some_pair-requires : goal.compare-some_pair-requires
 compare-some_pair-requires t c = record {
-      alike_rows_in_bounds = c.requires.lent.alike_long;
-      channel_le_max_channel = (fields_of_compare t (goal.at.compare-some_pair-requires t c).After-at-e).0;
-    }
+  alike_rows_in_bounds = c.requires.lent.alike_long;
+  channel_le_max_channel = (fields_of_compare t (goal.at.compare-some_pair-requires t c).After-at-e).0;
+}
 
 pub compare-insert_if-found-requires : goal.compare-insert_if-found-requires
 compare-insert_if-found-requires t c = omega (arith, c.requires.lent.narrow)
@@ -88,10 +88,10 @@ compare-overflow_add-u t c = record { fits = omega (arith, c.requires.lent.narro
 
 pub compare-loop-u-preserved : goal.compare-loop-u-preserved
 compare-loop-u-preserved t c = (
-      search rules,
-      rw c.insert_if-found.ensures
-          (collects_next c.requires.lent c.args.k c.requires.k_bound.0 c.args.c c.requires.k_bound.1 c.loop-u.u c.loop-u.found c.at-e.result c.ends-s.result c.ends-t.result c.some_pair.result (search rules) c.at-e.ensures c.ends-s.ensures c.ends-t.ensures c.some_pair.ensures c.loop-u.invariant.1),
-    )
+  search rules,
+  rw c.insert_if-found.ensures
+      (collects_next c.requires.lent c.args.k c.requires.k_bound.0 c.args.c c.requires.k_bound.1 c.loop-u.u c.loop-u.found c.at-e.result c.ends-s.result c.ends-t.result c.some_pair.result (search rules) c.at-e.ensures c.ends-s.ensures c.ends-t.ensures c.some_pair.ensures c.loop-u.invariant.1),
+)
 
 pub compare-returns : goal.compare-returns
 compare-returns t c = let a = c.args in
@@ -122,15 +122,15 @@ asks_of_compute t c h =
 
 pub compute-with_property-requires : goal.compute-with_property-requires
 compute-with_property-requires t c = let n = entry_of_compute t (goal.at.compute-with_property-requires t c).After-node_kind in record {
-      model_rows_in_bounds = n.lent.table_long;
-      property_le_max_property = property_within n c.in-Property.is;
-    }
+  model_rows_in_bounds = n.lent.table_long;
+  property_le_max_property = property_within n c.in-Property.is;
+}
 
 pub compute-with_name-requires : goal.compute-with_name-requires
 compute-with_name-requires t c = let n = entry_of_compute t (goal.at.compute-with_name-requires t c).After-node_kind in record {
-      model_rows_in_bounds = n.lent.table_long;
-      name_le_max_name = name_within n c.in-Name.is;
-    }
+  model_rows_in_bounds = n.lent.table_long;
+  name_le_max_name = name_within n c.in-Name.is;
+}
 
 pub compute-all_nodes-requires : goal.compute-all_nodes-requires
 compute-all_nodes-requires t c = (entry_of_compute t (goal.at.compute-all_nodes-requires t c).After-node_kind).lent.table_long
@@ -155,9 +155,9 @@ compute-evaluate-s-requires-in-After t c = asks_of_compute t (goal.at.compute-ev
 
 pub compute-before-requires : goal.compute-before-requires
 compute-before-requires t c = let n = entry_of_compute t (goal.at.compute-before-requires t c).After-node_kind in record {
-      model_rows_in_bounds = n.lent.table_long;
-      n_le_width = (n.lent.narrow, axis_within n c.in-After.is);
-    }
+  model_rows_in_bounds = n.lent.table_long;
+  n_le_width = (n.lent.narrow, axis_within n c.in-After.is);
+}
 
 pub compute-compare-requires : goal.compute-compare-requires
 compute-compare-requires t c = let n = entry_of_compute t (goal.at.compute-compare-requires t c).After-node_kind in
@@ -212,10 +212,10 @@ ends-only-requires t c = omega (arith, c.requires.path_of.1, c.requires.lent.nar
 
 pub ends-loop-j-init : goal.ends-loop-j-init
 ends-loop-j-init t c = let a = c.args in (
-      omega (arith, c.entries_swept-j.ensures),
-      search rules,
-      rw (c.entries_swept-j.ensures, c.store.ensures, c.only.ensures) (sweep_begins c.requires.lent a.path a.u c.requires.path_of.0),
-    )
+  omega (arith, c.entries_swept-j.ensures),
+  search rules,
+  rw (c.entries_swept-j.ensures, c.store.ensures, c.only.ensures) (sweep_begins c.requires.lent a.path a.u c.requires.path_of.0),
+)
 
 pub ends-sweep_entry-requires : goal.ends-sweep_entry-requires
 ends-sweep_entry-requires t c = let a = c.args in
@@ -226,10 +226,10 @@ ends-sweep_entry-requires t c = let a = c.args in
 
 pub ends-loop-j-preserved : goal.ends-loop-j-preserved
 ends-loop-j-preserved t c = let a = c.args in (
-      omega (arith, c.loop-j.invariant.0),
-      search rules,
-      sweep_goes_on c.requires.lent a.path a.u c.loop-j.j c.loop-j.pending _ (search rules) c.loop-j.invariant.2 c.sweep_entry.ensures,
-    )
+  omega (arith, c.loop-j.invariant.0),
+  search rules,
+  sweep_goes_on c.requires.lent a.path a.u c.loop-j.j c.loop-j.pending _ (search rules) c.loop-j.invariant.2 c.sweep_entry.ensures,
+)
 
 pub ends-returns : goal.ends-returns
 ends-returns t c = let a = c.args in
@@ -287,15 +287,15 @@ entry_of_sweep_entry t c =
 
 pub sweep_entry-image-requires : goal.sweep_entry-image-requires
 sweep_entry-image-requires t c = let n = entry_of_sweep_entry t (goal.at.sweep_entry-image-requires t c).After-path_kind in record {
-      model_rows_in_bounds = n.lent.table_long;
-      axis_le_max_axis = step_axis n c.in-Step.is;
-    }
+  model_rows_in_bounds = n.lent.table_long;
+  axis_le_max_axis = step_axis n c.in-Step.is;
+}
 
 pub sweep_entry-with_name-requires : goal.sweep_entry-with_name-requires
 sweep_entry-with_name-requires t c = let n = entry_of_sweep_entry t (goal.at.sweep_entry-with_name-requires t c).After-path_kind in record {
-      model_rows_in_bounds = n.lent.table_long;
-      name_le_max_name = jump_name n c.in-Jump.is;
-    }
+  model_rows_in_bounds = n.lent.table_long;
+  name_le_max_name = jump_name n c.in-Jump.is;
+}
 
 pub sweep_entry-evaluate-t-requires : goal.sweep_entry-evaluate-t-requires
 sweep_entry-evaluate-t-requires t c = let n = entry_of_sweep_entry t (goal.at.sweep_entry-evaluate-t-requires t c).After-path_kind in
