@@ -34,10 +34,10 @@ use Rattle.steps.specs.Steps.{steps_from, step_at, rule_field_check, unless_stal
 use Rattle.tableau.specs.declared.finding.Counts.{Counts}
 use Rattle.tableau.specs.declared.finding.Closed.{Closed}
 use Rattle.tableau.specs.Run.{run, max_lines, longest, lines_check, waiting_check, limits_check, branches, counted, none}
-use Rattle.tableau.specs.Counting.{one_at_most, clash_within}
+use Rattle.tableau.proofs.Counting.{one_at_most, clash_within}
 use Rattle.branch_walk.specs.Walk.{Bounded}
 use Rattle.branch_walk.specs.WalkLaws.{none_bounded}
-use Rattle.tableau.specs.JudgingCloses as closure
+use Rattle.tableau.proofs.JudgingCloses as closure
 use Rattle.tableau.specs.Judging as tableau
 use Rattle.typing.specs.Typing.{typing_of}
 use Rattle.typing.specs.Findings.{Small}

@@ -21,7 +21,7 @@ use Rattle.tableau.specs.declared.finding.WalkRefusal.{WalkRefusal}
 use Rattle.branch_step.specs.declared.Stop.{Stop}
 use Rattle.branch_step.specs.declared.Advance.{Advance}
 use Rattle.tableau.specs.Run.{run, max_lines, max_waiting, longest, further, limits_check, branches, counted}
-use Rattle.tableau.specs.RunCloses.{same_counts}
+use Rattle.tableau.proofs.RunCloses.{same_counts}
 use Rattle.rules.specs.Sides.{sides}
 use Rattle.branch_step.specs.Step.{put_lines, pushed, advance_of}
 use Rattle.branch_walk.specs.Straight.{WalkLent, remaining, Leaves, Onto, StepConcludes, StopSays, Stops, Advances}

@@ -24,7 +24,7 @@ use Rattle.branch_step.specs.declared.Stop.{Stop}
 use Rattle.branch_end.specs.declared.BranchEnd.{BranchEnd}
 use Rattle.branch_end.specs.Ends.{count_clash, count_fork, finished_if, finished}
 use Rattle.tableau.specs.Run.{run, max_waiting, counted, none}
-use Rattle.tableau.specs.RunCloses.{same_counts}
+use Rattle.tableau.proofs.RunCloses.{same_counts}
 use Rattle.tableau.specs.Judging.{max_steps, area_need, closed_by, clears, area_after, walk_number}
 use Rattle.branch_walk.specs.Straight.{WalkLent, remaining, Leaves, Onto, Stops}
 use Rattle.branch_walk.specs.StraightLaws.{steps_next, steps_none, run_goes_on, run_crowded, concludes_formed, lent_kept, lent_more}

@@ -11,8 +11,8 @@ use Rattle.model.specs.Judging as model
 use Rattle.tableau.specs.declared.finding.Closed.{Closed}
 use Rattle.tableau.specs.Judging as tableau
 use Rattle.tableau.specs.Closure.{Closure, ExcludedEverywhere}
-use Rattle.tableau.specs.JudgingCloses.{judging_closes, finding_closes}
-use Rattle.tableau.specs.Counting.{clashes_forks, most_lines_law}
+use Rattle.tableau.proofs.JudgingCloses.{judging_closes, finding_closes}
+use Rattle.tableau.proofs.Counting.{clashes_forks, most_lines_law}
 use Rattle.tableau.specs.Soundness.{excludes, excluded_finite}
 use Rattle.judge.specs.Promises.{Met, IsClosed, NeverMet, NeverClosed, ModelPromise, TableauPromise}
 

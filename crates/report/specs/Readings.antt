@@ -39,7 +39,7 @@ use Rattle.steps.specs.Steps.{step_at, steps_from, stepping}
 use Rattle.tableau.specs.declared.finding.Closed.{Closed}
 use Rattle.tableau.specs.Run.{run}
 use Rattle.tableau.specs.Judging as tableau
-use Rattle.tableau.specs.JudgingCloses.{judging_closes}
+use Rattle.tableau.proofs.JudgingCloses.{judging_closes}
 use Rattle.tableau.specs.Soundness.{excludes}
 use Rattle.typed_text.specs.Text as texts
 use Rattle.typed_text.specs.Text.{Numeral, NodeText, RowText}

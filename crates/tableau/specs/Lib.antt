@@ -1,9 +1,6 @@
--- In the order of reading: definitions, then what is proved of them.
+-- In the order of reading: definitions, then that closing excludes the root. What else is proved of them stands in proofs/.
 pub mod Run
 pub mod Judging
 pub mod Closing
 pub mod Closure
-pub mod RunCloses
-pub mod JudgingCloses
-pub mod Counting
 pub mod Soundness

@@ -53,7 +53,3 @@ excludes {bs} {ts} closure M nom u holds =
 -- what is excluded everywhere is excluded in the finite ones
 pub excluded_finite : (bs : List ℕ) → ExcludedEverywhere bs → Excluded bs
 excluded_finite bs everywhere F ok x = everywhere (model_of F) (naming_of F ok) x
-
--- a closed tableau shows that no finite data model, of any size, has a node where the root holds
-pub excludes_finite : {bs ts : List ℕ} {size : ℕ} {c : Closed} → Closure bs ts size c → Excluded bs
-excludes_finite closure = λ F ok x. excludes closure (model_of F) (naming_of F ok) x

@@ -17,7 +17,7 @@ use Rattle.tableau_judge.specs.declared.header.Header.{Header}
 use Rattle.tableau.specs.Judging.{max_steps, step_bytes, area_need, header_check, judging_check, run_of, judging_of, clears, header_number}
 use Rattle.tableau_judge.specs.Headers.{header_at, header_of}
 use Rattle.branch_walk.specs.Walk.{steps_found}
-use Rattle.tableau.specs.JudgingCloses.{header_passes, judging_runs, judging_refuses}
+use Rattle.tableau.proofs.JudgingCloses.{header_passes, judging_runs, judging_refuses}
 
 -- ---- the start name, as its making function answers
 pub start_made : (x : ℕ) (m : NameMade) (i : Name) → name_made m ≡ make max_name x → m ≡ NameMade.Made i → (ltb max_name x ≡ false) × (i ≡ name x)

@@ -22,7 +22,7 @@ use Rattle.tableau.specs.Run.{none}
 use Rattle.tableau.specs.Closing.{Closes, most_lines, Keeps, says_clash, says_fork, steps_that}
 use Rattle.tableau.specs.Judging.{mark, start_of, step_count, max_steps, steps_of, start_line, area_need, area_check, mark_check, version_check, count_check, start_check, header_check, judging_check, run_of, closed_by, judging_of}
 use Rattle.tableau.specs.Closure.{ValidHeader, Closure}
-use Rattle.tableau.specs.RunCloses.{Ran, used, used_split, tallied, same_counts, closes_run, run_closes, run_done, done_runs}
+use Rattle.tableau.proofs.RunCloses.{Ran, used, used_split, tallied, same_counts, closes_run, run_closes, run_done, done_runs}
 
 -- ---- the checks
 pub header_passes : (bs ts : List ℕ) → header_check bs ts ≡ passes → ValidHeader bs ts

@@ -11,9 +11,9 @@ use Rattle.rules.specs.Sides.{sides}
 use Rattle.tableau.specs.Run.{longest, one_if, at_clash}
 use Rattle.tableau.specs.Closing.{Closes, CloseEach, step, none, side, most_lines, most_of_each, says_clash, says_fork, steps_that}
 use Rattle.tableau.specs.Judging.{step_count, step_bytes}
-use Rattle.tableau.specs.RunCloses.{used, used_by_each, counts_as, steps_append}
+use Rattle.tableau.proofs.RunCloses.{used, used_by_each, counts_as, steps_append}
 use Rattle.tableau.specs.Closure.{Closure}
-use Rattle.tableau.specs.JudgingCloses.{all_used}
+use Rattle.tableau.proofs.JudgingCloses.{all_used}
 
 -- what a test counts, and what a clash does
 pub one_at_most : (t : Bool) → one_if t ≤ 1
