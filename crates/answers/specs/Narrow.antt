@@ -21,6 +21,7 @@ use Rattle.model_records.specs.Checks as file
 use Rattle.model_records.specs.Valid as file_valid
 use Rattle.model_records.proofs.Valid.{model_valid}
 use Rattle.model.specs.Judging as model
+use Rattle.model.proofs.Judging as model_laws
 use Rattle.ordered_file.specs.NewFile.{ordered_file}
 use Rattle.ordered_file.proofs.EdgeList.{edges_few}
 use Rattle.ordered_file.proofs.Made.{length_made}
@@ -182,7 +183,7 @@ model_judging_narrow order bs ds size =
     unless_narrow NarrowJudged (model.judging_check order bs ds size) _
     (begins_narrow bs (ltb size (model.area_need bs)) (file.model_check order ds then model.names_check bs ds)
     (then_narrow (file.model_check order ds) (model.names_check bs ds) (model_narrow ds order) (λ e. names_narrow bs ds)))
-    (λ e. judged_narrow (node_count ds) _ (omega (arith, ((model.checks_pass order bs ds size).0 e).2.header.narrow)))
+    (λ e. judged_narrow (node_count ds) _ (omega (arith, ((model_laws.checks_pass order bs ds size).0 e).2.header.narrow)))
 
 -- ---- putting a model file in order
 

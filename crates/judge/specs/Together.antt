@@ -8,6 +8,7 @@ use Rattle.model_records.specs.declared.Order.{Order}
 use Rattle.model_records.specs.Contents.{model_from}
 use Rattle.model_records.specs.Valid.{all_named}
 use Rattle.model.specs.Judging as model
+use Rattle.model.proofs.Judging as model_laws
 use Rattle.tableau.specs.declared.finding.Closed.{Closed}
 use Rattle.tableau.specs.Judging as tableau
 use Rattle.tableau.specs.Closure.{Closure, ExcludedEverywhere}
@@ -19,7 +20,7 @@ use Rattle.judge.specs.Promises.{Met, IsClosed, NeverMet, NeverClosed, ModelProm
 apart : (bs ts ds : List ℕ) (size size' : ℕ) (c : Closed) (lowest number : ℕ)
     → tableau.judging_of bs ts size ≡ found c → model.judging_of bs ds size' ≡ found (met lowest number) → ⊥
 apart bs ts ds size size' c lowest number closed m =
-    let j = (model.judging_says bs ds size' (met lowest number)).0 m in
+    let j = (model_laws.judging_says bs ds size' (met lowest number)).0 m in
     excluded_finite bs (excludes ((judging_closes bs ts size c).0 closed)) (model_from ds) (all_named j.model_valid) (lowest, j.says.0.0) j.says.0.1
 
 closed_never_met : (bs ts : List ℕ) (size : ℕ) (c : Closed) → tableau.judging_of bs ts size ≡ found c → NeverMet bs
@@ -44,9 +45,9 @@ model_promised bs ds lent left f e a =
     record {
       finding = e;
       area = a;
-      meaning = model.finding_means bs ds (length lent) f e;
-      short = λ l. e ∙ model.short_refused Order.Rising bs ds (length lent) l;
-      as_before = λ l. e ∙ model.enough_as_before Order.Rising bs ds (length lent) l;
+      meaning = model_laws.finding_means bs ds (length lent) f e;
+      short = λ l. e ∙ model_laws.short_refused Order.Rising bs ds (length lent) l;
+      as_before = λ l. e ∙ model_laws.enough_as_before Order.Rising bs ds (length lent) l;
       tableaux = λ lowest number h. met_never_closed bs ds (length lent) lowest number (sym e ∙ h);
     }
 

@@ -30,7 +30,8 @@ use Rattle.model_records.specs.Order.{EdgesRise, comes_before}
 use Rattle.model_records.specs.Checks as file
 use Rattle.model_records.specs.Checks.{name_check, edge_check, order_check, record_check, model_check}
 use Rattle.model_records.specs.Valid.{ValidModel, all_named}
-use Rattle.model.specs.Judging.{area_need, names_check, judging_check, judging_by, judging_of, area_wanted, area_after, checks_pass, judging_finds, judging_refuses}
+use Rattle.model.specs.Judging.{area_need, names_check, judging_check, judging_by, judging_of, area_wanted, area_after}
+use Rattle.model.proofs.Judging.{checks_pass, judging_finds, judging_refuses}
 use Rattle.ordered_file.specs.NewFile.{edges_of, front_of, ordered_file}
 use Rattle.model_order.specs.Ordering.{file_within, ordering_of}
 use Rattle.lines.specs.Lines.{branch_has}

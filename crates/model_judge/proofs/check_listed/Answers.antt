@@ -6,7 +6,8 @@ use Rattle.pattern.specs.Checks.Finding.{refuses}
 use Rattle.pattern.specs.File.Types.{max_name}
 use Rattle.names.specs.declared.NameSet.{NameSet}
 use Rattle.names.specs.Set.{has, has_minus}
-use Rattle.model.specs.Judging.{is_missing, lowest_refused, lowest_passes}
+use Rattle.model.specs.Judging.{is_missing}
+use Rattle.model.proofs.Judging.{lowest_refused, lowest_passes}
 use Rattle.model_judge.proofs.check_listed.Goals.{After-lowest-lowest}
 use Rattle.model_judge.proofs.check_listed.Goals as goal
 

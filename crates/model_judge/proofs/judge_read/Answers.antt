@@ -7,7 +7,8 @@ use Rattle.pattern.specs.File.Reading.{pattern_check}
 use Rattle.pattern.specs.File.Valid.{read_passes}
 use Rattle.pattern.proofs.File.Valid.{valid_read}
 use Rattle.model_records.specs.declared.Order.{Order}
-use Rattle.model.specs.Judging.{area_need, judging_check, Allowed, area_decides, model_decides, checks_pass, judging_finds, judging_refuses, root_judged}
+use Rattle.model.specs.Judging.{area_need, judging_check}
+use Rattle.model.proofs.Judging.{Allowed, area_decides, model_decides, checks_pass, judging_finds, judging_refuses, root_judged}
 use Rattle.model_judge.specs.Checked.{check_of}
 use Rattle.model_judge.proofs.judge_read.Goals.{After-area_bytes-need, After-check_model, In_default, After-root_nodes-arg-1}
 use Rattle.model_judge.proofs.judge_read.Goals as goal

@@ -1,6 +1,6 @@
 -- `judge::exports::riser_model_area` meets its contract.
 -- Assumes nothing.
-use Rattle.model.specs.Judging.{wanted_few}
+use Rattle.model.proofs.Judging.{wanted_few}
 use Rattle.judge.proofs.exports.riser_model_area.Goals as goal
 
 pub returns : goal.returns
