@@ -83,7 +83,7 @@ abbrev pub tableau_a : List ℕ
 tableau_a = tableau_file 0 3 (step 2 0 0 0 ++ step 1 2 0 0 ++ step 21 1 3 0)
 
 abbrev pub A : Type 0
-A = Prints pattern_a tableau_a "closed 3 1 0 4"
+A = Prints pattern_a (tableau_file 0 3 (step 2 0 0 0 ++ step 1 2 0 0 ++ step 21 1 3 0)) "closed 3 1 0 4"
 
 -- "B: A with its last step dropped: `refused 26 2`."
 abbrev pub B : Type 0
@@ -427,8 +427,8 @@ nameless_I : (i : ℕ) → uses_name pattern_i i ≡ false
 unfolding uses_name some_below
 nameless_I i = refl
 
-I-holds : I
-I-holds = (always_unmet, files, any)
+I_holds : I
+I_holds = (always_unmet, files, any)
   where
     listed : (ds : List ℕ) → NamesListed pattern_i ds
     listed ds i used = absurd (false≢true (sym (nameless_I i) ∙ used))
@@ -485,9 +485,9 @@ nots (ℕ.suc n) t = NodeText.not (nots n t)
 abbrev text_g : NodeText
 text_g = NodeText.both (NodeText.same (step_on zero) zero (step_on one)) (NodeText.differ (step_on zero) zero (step_on one))
 
-Job7-holds : Job7
+Job7_holds : Job7
 unfolding typing.text_within typing.file_within onto
-Job7-holds = (
+Job7_holds = (
   by_tree text_g _ 26 _ refl refl refl,
   by_tree text_g _ 25 _ refl refl refl,
   by_tree
@@ -558,4 +558,4 @@ closed_files = (refl, refl)
 
 pub readings_hold : All readings
 unfolding reading_of pattern_check header_check entry_check root_check each_field some_below each_below same_bytes judging_by judging_check names_check model_check file.header_check name_check edge_check order_check record_check comes_before is_listed node_at node_within path_within holds_test leads_test judged_by lowest_below count_below leads_in node_named tableau.judging_of tableau.judging_check tableau.header_check tableau.run_of run stepping rule_at step_at steps_from branch_has uses_name digits_within list_below edges_of front_of ordered_file file_within ordering_of onto cleared
-readings_hold = (refl, (refl, (refl, (refl, (refl, (refl, (refl, (refl, (I-holds, ((refl, refl, refl, refl), ((refl, refl, refl, refl, refl), ((refl, refl, refl, refl), ((refl, refl, refl, refl, refl, refl, refl, refl, refl), ((refl, refl, refl, refl, refl, refl, refl, refl, refl, refl), ((refl, refl, refl, refl, refl, refl, refl, refl, refl, refl, refl, refl), ((refl, refl, refl, refl, refl, refl, refl, refl, refl, refl, refl, refl, refl, refl), (Job7-holds, ((λ bs ts size c h. (covered bs ts size c h estate, covered bs ts size c h pulsing), covered pattern_a tableau_a 8192 _ closed_files.0 estate, odd, even, refl, covered pattern_chained tableau_chained 8192 _ closed_files.1 pulsing, alike_row_law, by_value), tt))))))))))))))))))
+readings_hold = (refl, (refl, (refl, (refl, (refl, (refl, (refl, (refl, (I_holds, ((refl, refl, refl, refl), ((refl, refl, refl, refl, refl), ((refl, refl, refl, refl), ((refl, refl, refl, refl, refl, refl, refl, refl, refl), ((refl, refl, refl, refl, refl, refl, refl, refl, refl, refl), ((refl, refl, refl, refl, refl, refl, refl, refl, refl, refl, refl, refl), ((refl, refl, refl, refl, refl, refl, refl, refl, refl, refl, refl, refl, refl, refl), (Job7_holds, ((λ bs ts size c h. (covered bs ts size c h estate, covered bs ts size c h pulsing), covered pattern_a tableau_a 8192 _ closed_files.0 estate, odd, even, refl, covered pattern_chained tableau_chained 8192 _ closed_files.1 pulsing, alike_row_law, by_value), tt))))))))))))))))))

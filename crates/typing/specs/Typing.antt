@@ -52,8 +52,8 @@ SameEverywhere t file = (M : Model) (nom : Naming M) (x : M.Node) → Holds M no
 -- the same, of finite data models
 abbrev pub SameMeaning : NodeText → List ℕ → Type 0
 SameMeaning t file =
-    (F : Finite) (ok : Named F) (x : NodeOf F)
-    → Holds (model_of F) (naming_of F ok) (root_of file) x ↔ Holds (model_of F) (naming_of F ok) (node_means t) x
+    (F : Finite) (ok : Named F) (u : NodeOf F)
+    → Holds (model_of F) (naming_of F ok) (root_of file) u ↔ Holds (model_of F) (naming_of F ok) (node_means t) u
 
 -- What a length says: nothing was to be refused, and it is the file's.
 pub record Types (xs : List ℕ) (room n : ℕ) : Type 0 where
