@@ -8,7 +8,7 @@ use Rattle.branch_step.specs.declared.Stop.{Stop}
 use Rattle.branch_walk.specs.Straight.{Stops}
 use Rattle.branch_walk.specs.Walk.{Walks}
 use Rattle.branch_walk.specs.WalkLaws.{walk_clash, walk_crowded, left_lent, right_lent, fork_bounded, walk_left_refused, walk_right}
-use Rattle.branch_walk.proofs.walk.+walk.Goals.{In-Clash, In-Fork, After-walk-next, Else-next-ge-FIRST_REFUSAL}
+use Rattle.branch_walk.proofs.walk.+walk.Goals.{In-Clash, In-Fork, After-walk-next}
 use Rattle.branch_walk.proofs.walk.+walk.Goals as goal
 
 -- the straight part ends at a clash
@@ -43,14 +43,10 @@ left_ends t c = rw (sym c.count_fork.ensures, sym c.store.ensures) c.walk-next.e
 left_kept : (t : ℕ) (c : After-walk-next t) → length c.walk-next.new.area.now ≡ length c.straight.new.area
 left_kept t c = c.walk-next.ensures.long ∙ c.store.auto.area
 
--- the left side is closed where the walk goes on
-left_closed : (t : ℕ) (c : Else-next-ge-FIRST_REFUSAL t)
-    → LeftEnds t (goal.at.Else-next-ge-FIRST_REFUSAL t c).After-walk-next (BranchEnd.Closed c.walk-next.result (counts_of c.walk-next.new.counts))
-left_closed t c =
-    let next = c.walk-next.result in
-    let below : next < first_refusal = omega (arith, c.if-next-ge-FIRST_REFUSAL.false) in
-    subst (LeftEnds t (goal.at.Else-next-ge-FIRST_REFUSAL t c).After-walk-next) (end_closed next (counts_of c.walk-next.new.counts) below)
-    (left_ends t (goal.at.Else-next-ge-FIRST_REFUSAL t c).After-walk-next)
+-- the left side is closed where its answer is no refusal
+left_closed : (t : ℕ) (c : After-walk-next t) → c.walk-next.result < first_refusal
+    → LeftEnds t c (BranchEnd.Closed c.walk-next.result (counts_of c.walk-next.new.counts))
+left_closed t c below = subst (LeftEnds t c) (end_closed c.walk-next.result (counts_of c.walk-next.new.counts) below) (left_ends t c)
 
 pub returns-then-waiting-ge-MAX_WAITING-clause-walks : goal.returns-then-waiting-ge-MAX_WAITING-clause-walks
 returns-then-waiting-ge-MAX_WAITING-clause-walks t c =
@@ -78,7 +74,7 @@ pub walk-requires : goal.walk-requires
 walk-requires t c =
     let w = (goal.at.walk-requires t c).After-walk-next in
     let stops = at_fork t (goal.at.walk-requires t c).In-Fork in
-    let closed = left_closed t (goal.at.walk-requires t c).Else-next-ge-FIRST_REFUSAL in
+    let closed = left_closed t w (omega arith) in
     let end = closed.says in (
       omega (arith, c.decreases, stops.says.0.later, end.later, end.steps_left),
       (
@@ -99,5 +95,5 @@ pub returns-else-next-ge-FIRST_REFUSAL-clause-walks : goal.returns-else-next-ge-
 returns-else-next-ge-FIRST_REFUSAL-clause-walks t c =
     let w = (goal.at.returns-else-next-ge-FIRST_REFUSAL-clause-walks t c).After-walk-next in
     let stops = at_fork t (goal.at.returns-else-next-ge-FIRST_REFUSAL-clause-walks t c).In-Fork in
-    let closed = left_closed t (goal.at.returns-else-next-ge-FIRST_REFUSAL-clause-walks t c).Else-next-ge-FIRST_REFUSAL in
+    let closed = left_closed t w (omega arith) in
     walk_right stops c.if-waiting-ge-MAX_WAITING.false closed (left_kept t w) (rw c.store-in-Fork.ensures at c.walk.ensures.walks)

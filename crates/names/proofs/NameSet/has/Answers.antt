@@ -10,7 +10,7 @@ returns-then-name-lt-WIDTH c = let a = c.args in c.has.ensures ∙ sym (has_low 
 pub returns-then-above-lt-WIDTH : goal.returns-then-above-lt-WIDTH
 returns-then-above-lt-WIDTH c =
     let a = c.args in
-    c.has-then-above-lt-WIDTH.ensures ∙ sym (has_high a.self a.name c.if-name-lt-WIDTH.false)
+    c.has-then-above-lt-WIDTH.ensures ∙ sym (has_high a.self a.name (omega arith))
 
 pub returns : goal.returns
-returns c = let a = c.args in sym (has_beyond a.self a.name (omega (arith, c.if-above-lt-WIDTH.false, c.if-name-lt-WIDTH.false)))
+returns c = let a = c.args in sym (has_beyond a.self a.name (omega arith))

@@ -1,7 +1,7 @@
 -- `tableau_judge::judge::judge_read` meets its contract: the area is asked for, then the header is read, and then the steps are checked, on the
 -- front of the area.
 -- Assumes nothing.
-use Rattle.std.proofs.Common.{◌≡◌, refl, sym, ◌∙◌, ap, ◌*◌, ◌≤◌, length}
+use Rattle.std.proofs.Common.{◌≡◌, refl, sym, ◌∙◌, ap, arith, ◌*◌, ◌≤◌, length}
 use Rattle.wire.specs.Cleared.{front_length, cleared_front}
 use Rattle.pattern.specs.Checks.Finding.{found}
 use Rattle.tableau.specs.Judging.{max_steps, step_bytes, area_need}
@@ -40,7 +40,7 @@ slice_bounds-check_steps-count c = (steps-are (goal.at.slice_bounds-check_steps-
 
 pub slice_bounds-check_steps-end-in-Read-2 : goal.slice_bounds-check_steps-end-in-Read-2
 slice_bounds-check_steps-end-in-Read-2 c =
-    sym (front_length area_need c.args.area.now c.if-area-lt-AREA.false)
+    sym (front_length area_need c.args.area.now (omega arith))
 
 pub check_steps-requires : goal.check_steps-requires
 check_steps-requires c =
@@ -48,14 +48,14 @@ check_steps-requires c =
       p_value = c.requires;
       set_of = c.used_names-used.ensures;
       steps_len = (rw (steps_part c.args.t.now) steps.1, steps.2);
-      area_len = front_length area_need c.args.area.now c.if-area-lt-AREA.false;
+      area_len = front_length area_need c.args.area.now (omega arith);
     }
 
 pub returns-in-Refused : goal.returns-in-Refused
 returns-in-Refused c =
     let a = c.args in record {
       finding = sym
-          (judging_header a.p.now a.t.now (length a.area.now) a.n _ _ c.requires c.if-area-lt-AREA.false
+          (judging_header a.p.now a.t.now (length a.area.now) a.n _ _ c.requires (omega arith)
           (sym (c.read_header.ensures _ c.used_names-used.ensures) ∙ ap header_finding c.in-Refused.is));
       area = rw (header_early c.in-Refused.refusal) refl;
     }
@@ -63,7 +63,7 @@ returns-in-Refused c =
 pub returns-in-Read : goal.returns-in-Read
 returns-in-Read c =
     let a = c.args in
-    let room = c.if-area-lt-AREA.false in record {
+    let room = (omega arith) in record {
       finding = rw (steps_part a.t.now) at c.check_steps.ensures.finding
           ∙ sym (judging_steps a.p.now a.t.now (length a.area.now) a.n c.in-Read.h c.requires room (read (goal.at.returns-in-Read c).In-Read));
       area = cleared_front area_need a.area.now _ room c.check_steps.ensures.area ∙ sym (c.check_steps.ensures.clears a.area.now);
