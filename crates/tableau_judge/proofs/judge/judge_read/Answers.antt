@@ -63,7 +63,7 @@ returns-in-Refused c =
 pub returns-in-Read : goal.returns-in-Read
 returns-in-Read c =
     let a = c.args in
-    let room = (omega arith) in record {
+    let room : area_need ≤ length a.area.now = omega arith in record {
       finding = rw (steps_part a.t.now) at c.check_steps.ensures.finding
           ∙ sym (judging_steps a.p.now a.t.now (length a.area.now) a.n c.in-Read.h c.requires room (read (goal.at.returns-in-Read c).In-Read));
       area = cleared_front area_need a.area.now _ room c.check_steps.ensures.area ∙ sym (c.check_steps.ensures.clears a.area.now);
