@@ -51,7 +51,7 @@ Rules used:
   rule 2 (has both): P has (f&g): has f, then has g
   rule 21 (clash of signs): P and Q alike but for sign: clash
 
-Finding: closed 3 1 0 4. Every branch ends in a clash: no model, finite or infinite, meets the pattern.
+Finding: closed 3 1 0 4. Every branch ends in a clash: no model meets the pattern.
 (The counts are steps, clashes, forks, and the most lines that a branch had at its clash.)
 "
     );

@@ -56,9 +56,6 @@ pub fn rules_of(steps: &[Step]) -> Vec<(u8, &'static str, &'static str)> {
 }
 
 fn closing(finding: Finding) -> Conclusion {
-    Conclusion::found(
-        finding,
-        "Every branch ends in a clash: no model, finite or infinite, meets the pattern",
-    )
-    .with("(The counts are steps, clashes, forks, and the most lines that a branch had at its clash.)")
+    Conclusion::found(finding, "Every branch ends in a clash: no model meets the pattern")
+        .with("(The counts are steps, clashes, forks, and the most lines that a branch had at its clash.)")
 }

@@ -40,9 +40,8 @@ fn says_that_a_tableau_is_closed() {
         directory.file("pattern.bin", &pattern(&ENTRIES_A)),
         directory.file("proposal.bin", &tableau(0, &STEPS_A)),
     ];
-    let closed = format!(
-        "closed 3 1 0 4\nEvery branch ends in a clash: no model, finite or infinite, meets the pattern.\n{COUNTS}"
-    );
+    let closed =
+        format!("closed 3 1 0 4\nEvery branch ends in a clash: no model meets the pattern.\n{COUNTS}");
     check_said(&run(&[OsStr::new("judge"), pattern.as_ref(), proposal.as_ref()]), 0, &closed);
     check_typed("(<0>p0&!<0>p0)", &proposal, 0, &closed);
 }

@@ -13,7 +13,7 @@ use crate::common::tool::{RISER, check_success, check_usage, run};
 use crate::files::{self, ENTRIES_A, ENTRIES_G, model_line, tableau_line};
 
 /// What is said of reading A's tableau.
-const CLOSED: &str = "closed 3 1 0 4\nEvery branch ends in a clash: no model, finite or infinite, meets the pattern.\n\
+const CLOSED: &str = "closed 3 1 0 4\nEvery branch ends in a clash: no model meets the pattern.\n\
                       (The counts are steps, clashes, forks, and the most lines that a branch had at its clash.)";
 
 /// What is said of a block of one node that meets a pattern.
