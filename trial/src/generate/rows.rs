@@ -300,7 +300,7 @@ mod tests {
                 "uses_again(p, marks, last, k, &mut uses);\n    let mut j = 0;\n    while j < k {",
                 "if paths_held(p, marks, k) {\n        return;\n    }\n    learn_needed(",
                 "bring_back(p, table, alike, area, rows, marks, n, slots, last, k);\n    if sort_at(p, k).is_node() {",
-                "        last,\n        last,\n        k,\n        k,\n",
+                "n, slots, last, last, k, k,",
             ],
         );
         let uses = include_str!("../../../crates/slots/src/uses.rt");
