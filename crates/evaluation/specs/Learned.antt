@@ -123,8 +123,8 @@ module _ {bs table alike : List ℕ} {n : ℕ} (lent : Lent bs table alike n) wh
     -- a node entry whose mark stays has its set as before
     stored_kept : {mark : ℕ} (k : ℕ) → k < count_of bs → sort_at bs k ≡ Sort.Node → mark ≡ mark_of marks k → not (eqb mark 0) ≡ true
         → Stored bs table alike n area k mark
-    stored_kept k l node same is_Known =
-        subst (Stored bs table alike n area k) (sym same) (known.sets k l node (subst (λ (x : ℕ). not (eqb x 0) ≡ true) same is_Known))
+    stored_kept k l node same is_marked =
+        subst (Stored bs table alike n area k) (sym same) (known.sets k l node (subst (λ (x : ℕ). not (eqb x 0) ≡ true) same is_marked))
 
     -- ---- a slot that is taken from its path
     module _ (slot : ℕ) (may : MayHold slot) where
@@ -161,7 +161,7 @@ module _ {bs table alike : List ℕ} {n : ℕ} (lent : Lent bs table alike n) wh
           record {
             area_long = known.area_long;
             marks_long = rw (length-set marks (tag_at slot) 0) known.marks_long;
-            sets = λ k l node is_Known. let same = taken_mark k (omega (arith, l, (lent_valid lent).header.one_byte)) in stored_kept k l node same is_Known;
+            sets = λ k l node is_marked. let same = taken_mark k (omega (arith, l, (lent_valid lent).header.one_byte)) in stored_kept k l node same is_marked;
             end_slot = taken_mark end_of_path (omega arith) ∙ known.end_slot;
             held = λ path is_path_law h.
                 subst (Rowed bs table alike n rows path) (sym (taken_mark path (path_small path is_path_law)))
@@ -193,8 +193,8 @@ module _ {bs table alike : List ℕ} {n : ℕ} (lent : Lent bs table alike n) wh
         record {
           area_long = known.area_long;
           marks_long = rw (length-set (set marks k slot) (tag_at slot) (tag_for k), length-set marks k slot) known.marks_long;
-          sets = λ j m node is_Known.
-              stored_kept j m node (mark_other j (omega (arith, m, few)) (λ e. path_no_node (sym (subst (λ (i : ℕ). sort_at bs i ≡ Sort.Path) (sym e) is_path_k) ∙ node))) is_Known;
+          sets = λ j m node is_marked.
+              stored_kept j m node (mark_other j (omega (arith, m, few)) (λ e. path_no_node (sym (subst (λ (i : ℕ). sort_at bs i ≡ Sort.Path) (sym e) is_path_k) ∙ node))) is_marked;
           end_slot = mark_other end_of_path (omega arith) (λ e. omega (arith, e, l, few)) ∙ known.end_slot;
           held = λ path is_path_law h. which path is_path_law h (eqb path k) refl;
         }
@@ -255,7 +255,7 @@ module _ {bs table alike : List ℕ} {n : ℕ} (lent : Lent bs table alike n) wh
         record {
           area_long = rw (length_put area (place_of bs k) s) known.area_long;
           marks_long = rw (length-set marks k (place_of bs k + 1)) known.marks_long;
-          sets = λ j m is_node_law is_Known. which j m is_node_law is_Known (eqb j k) refl;
+          sets = λ j m is_node_law is_marked. which j m is_node_law is_marked (eqb j k) refl;
           end_slot = mark_other end_of_path (λ e. omega (arith, e, l, (lent_valid lent).header.one_byte)) ∙ known.end_slot;
           held = λ path is_path_law h.
               subst (Rowed bs table alike n rows path) (sym (mark_other path (path_not_node path k l is_path_law node)))
@@ -287,11 +287,11 @@ module _ {bs table alike : List ℕ} {n : ℕ} (lent : Lent bs table alike n) wh
 
         which : (j : ℕ) → j < count_of bs → sort_at bs j ≡ Sort.Node → is_known marked j ≡ true → (b : Bool) → eqb j k ≡ b
             → Stored bs table alike n (put area (place_of bs k) s) j (mark_of marked j)
-        which j m is_node_law is_Known true e =
+        which j m is_node_law is_marked true e =
             subst (λ (i : ℕ). Stored bs table alike n (put area (place_of bs k) s) i (mark_of marked i)) (sym (eqb-true j k e)) own
-        which j m is_node_law is_Known false e =
+        which j m is_node_law is_marked false e =
             let other = eqb-false j k e in
-            let before = stored_kept j m is_node_law (mark_other j other) is_Known in
+            let before = stored_kept j m is_node_law (mark_other j other) is_marked in
             record {
               place_is = before.place_is;
               set_is = subst (Evaluates bs table alike n j) (sym (put_other area (place_of bs k) (place_of bs j) s (places_differ bs j k is_node_law node other))) before.set_is;
