@@ -17,7 +17,6 @@ import sys
 import tempfile
 
 WORD = r"[^\s(){}\[\].,;:\"`]+"
-COMMON = "/opt/rattle/rattle/std/proofs/Common.antt"
 plain = lambda it: re.sub(r"-?_-?|-", "-", it)
 # Names that Rattle makes up for a step; the check finds what they say.
 MADE_UP = re.compile(r"\.(enum_told|known_told|self|shared_slice_known|items_fit)[^\s.()]*-\d")
@@ -47,7 +46,9 @@ def read(path):
 
 
 def common_words():
-    text = re.sub(r"--.*", "", read(COMMON))
+    """The names that std's module Common passes on."""
+    kit = os.path.dirname(subprocess.run(["rt", "doc"], check=True, capture_output=True, text=True).stdout.strip())
+    text = re.sub(r"--.*", "", read(f"{kit}/rattle/std/proofs/Common.antt"))
     words = set()
     for names in re.findall(r"^pub use \S+?\.\{([^}]*)\}", text, re.M):
         words |= {n.strip().split(" as ")[-1] for n in names.split(",")}
