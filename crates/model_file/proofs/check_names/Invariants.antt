@@ -1,4 +1,4 @@
--- `model_file::check_names` meets its contract: every record passed has passed its check, by the laws of `each_below_law`, and the
+-- `model_file::check_names` meets its contract: every record passed has passed its check, by the laws of `each_below`, and the
 -- set has their names.
 -- Assumes nothing.
 use Rattle.std.proofs.Common.{ℕ, ◌-◌, ◌≤◌, ◌<◌, ◌≡◌}

@@ -1,4 +1,4 @@
--- `pattern_read::check_entries` meets its contract: every entry passed has passed its check, by the laws of `each_below_law`.
+-- `pattern_read::check_entries` meets its contract: every entry passed has passed its check, by the laws of `each_below`.
 -- Assumes nothing.
 use Rattle.std.proofs.Common.{rules, sym, ap, ◌∙◌, arith, length-set, below_none, below_more}
 use Rattle.pattern.specs.Checks.Range.{each_below_law, each_first}

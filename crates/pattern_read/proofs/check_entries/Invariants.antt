@@ -1,4 +1,4 @@
--- `pattern_read::check_entries` meets its contract: every entry passed has passed its check, by the laws of `each_below_law`.
+-- `pattern_read::check_entries` meets its contract: every entry passed has passed its check, by the laws of `each_below`.
 -- Assumes nothing.
 use Rattle.std.proofs.Common.{ℕ, ◌+◌, ◌*◌, ◌≤◌, ◌<◌, ◌-◌, ◌≡◌, length}
 use Rattle.pattern.specs.Checks.Finding.{passes}

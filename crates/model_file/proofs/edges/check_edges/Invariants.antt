@@ -1,4 +1,4 @@
--- `model_file::edges::check_edges` meets its contract: every record passed has passed its check, by the laws of `each_below_law`, and the least
+-- `model_file::edges::check_edges` meets its contract: every record passed has passed its check, by the laws of `each_below`, and the least
 -- number is that of the order.
 -- Assumes nothing.
 use Rattle.std.proofs.Common.{ℕ, ◌-◌, ◌≤◌, ◌<◌, ◌≡◌}
