@@ -1,6 +1,6 @@
 -- Room in a packed answer: the numbers of any finding, and the number and place of any refusal, are narrow enough for a part of 14 bits.
 -- Assumes nothing.
-use Rattle.std.specs.Prelude.{◌≡◌, refl, Bool, true, false, ltb, eqb, length}
+use Rattle.std.specs.Prelude.{◌≡◌, refl, Bool, true, false, ltb, eqb, length, Option, Some, None}
 use mathlib.Core.List.{List, [], ◌∷◌, ◌++◌}
 use Prim.Native.Nat.{ℕ, zero, suc, ◌+◌, ◌-◌, ◌≤◌, ◌<◌}
 use Rattle.std.proofs.Common.{le_trans, lt_trans, lt-suc_self, lt_of_le_of_lt, arith, lit<, ltb-false}
@@ -28,7 +28,6 @@ use Rattle.ordered_file.proofs.Made.{length_made}
 use Rattle.model_order.specs.Ordering.{file_within, ordering_of}
 use Rattle.lines.specs.declared.line.Line.{Line}
 use Rattle.rules.specs.declared.conclusion.Conclusion.{Conclusion}
-use Rattle.rules.specs.declared.conclusion.Outcome.{Outcome}
 use Rattle.rules.specs.Sides.{sides}
 use Rattle.steps.specs.declared.step.Step.{Step}
 use Rattle.steps.specs.Steps.{steps_from, step_at, rule_field_check, unless_stale, step_outcome, is_stale, stepping}
@@ -237,9 +236,9 @@ abbrev Any : Conclusion → Type 0
 Any c = Unit {0}
 
 module _ (bs : List ℕ) (b : List Line) (k : ℕ) (l : Narrow k) where
-  unless_stale_narrow : (o : Outcome) → NarrowFinding Any (unless_stale bs b k o)
-  unless_stale_narrow (Outcome.Fits c) = unless_narrow Any (refuses_if (is_stale bs b c) 22 k) c (fault_narrow (is_stale bs b c) 22 k (lit< tt) l) (λ e. tt)
-  unless_stale_narrow Outcome.Unfit = (lit< tt, l)
+  unless_stale_narrow : (o : Option Conclusion) → NarrowFinding Any (unless_stale bs b k o)
+  unless_stale_narrow (Some c) = unless_narrow Any (refuses_if (is_stale bs b c) 22 k) c (fault_narrow (is_stale bs b c) 22 k (lit< tt) l) (λ e. tt)
+  unless_stale_narrow None = (lit< tt, l)
 
   step_narrow : (s : Step) → NarrowFinding Any (stepping bs b s k)
   unfolding stepping

@@ -2,6 +2,7 @@
 #![tactic(auto)]
 
 ghost use Rattle.std.specs.Prelude.{◌≡◌, ◌≤◌};
+ghost use Rattle.pattern.specs.Checks.Finding.{found};
 ghost use Rattle.pattern.specs.File.Reading as reading;
 ghost use Rattle.model.specs.Judging as model-specs;
 ghost use Rattle.model_order.specs.Ordering as order-specs;
@@ -12,11 +13,11 @@ ghost use Rattle.answers.specs.Packed.{refused_answer, read_answer, model_answer
 
 use model::finding::ModelFinding;
 use model_order::OrderFinding;
-use pattern::finding::PatternRead;
+use pattern::finding::PatternRefusal;
 use tableau::finding::TableauFinding;
 use typing::finding::TypeFinding;
 
-// The kinds of an answer.
+// The kinds of an answer: numbers of the C interface, as include/riser.h has them.
 const REFUSED: u8 = 1;
 
 const READ: u8 = 2;
@@ -47,13 +48,20 @@ fn refused_answer(number: u8, place: u16) -> u64
     packed(REFUSED, number as u16, place, 0, 0)
 }
 
+// The answer of a file that was written: its length.
+fn file_answer(length: u16) -> u64
+    ensures { result ≡ written_answer (found length) }
+{
+    packed(WRITTEN, length, 0, 0, 0)
+}
+
 // The answer of reading a pattern.
-pub fn read_answer(f: PatternRead) -> u64
+pub fn read_answer(f: Result<u8, PatternRefusal>) -> u64
     ensures { result ≡ read_answer (reading.finding_of f) }
 {
     match f {
-        PatternRead::Read(n) => packed(READ, n as u16, 0, 0, 0),
-        PatternRead::Refused(refusal) => refused_answer(refusal.number(), refusal.place() as u16),
+        Ok(n) => packed(READ, n as u16, 0, 0, 0),
+        Err(refusal) => refused_answer(refusal.number(), refusal.place() as u16),
     }
 }
 
@@ -62,9 +70,9 @@ pub fn model_answer(f: ModelFinding) -> u64
     ensures { result ≡ model_answer (model-specs.finding_of f) }
 {
     match f {
-        ModelFinding::Met(lowest, number) => packed(MET, lowest as u16, number as u16, 0, 0),
-        ModelFinding::Unmet => packed(UNMET, 0, 0, 0, 0),
-        ModelFinding::Refused(refusal) => refused_answer(refusal.number(), refusal.place()),
+        Ok(Some(met)) => packed(MET, met.lowest as u16, met.number as u16, 0, 0),
+        Ok(None) => packed(UNMET, 0, 0, 0, 0),
+        Err(refusal) => refused_answer(refusal.number(), refusal.place()),
     }
 }
 
@@ -73,14 +81,8 @@ pub fn tableau_answer(f: TableauFinding) -> u64
     ensures { result ≡ tableau_answer (tableau-specs.finding_of f) }
 {
     match f {
-        TableauFinding::Closed(c) => {
-            let steps = c.steps;
-            let clashes = c.clashes;
-            let forks = c.forks;
-            let most = c.most;
-            packed(CLOSED, steps, clashes, forks, most)
-        }
-        TableauFinding::Refused(refusal) => refused_answer(refusal.number(), refusal.place()),
+        Ok(c) => packed(CLOSED, c.steps, c.clashes, c.forks, c.most),
+        Err(refusal) => refused_answer(refusal.number(), refusal.place()),
     }
 }
 
@@ -89,8 +91,8 @@ pub fn order_answer(f: OrderFinding) -> u64
     ensures { result ≡ written_answer (order-specs.finding_of f) }
 {
     match f {
-        OrderFinding::Written(length) => packed(WRITTEN, length, 0, 0, 0),
-        OrderFinding::Refused(refusal) => refused_answer(refusal.number(), refusal.place()),
+        Ok(length) => file_answer(length),
+        Err(refusal) => refused_answer(refusal.number(), refusal.place()),
     }
 }
 
@@ -99,7 +101,7 @@ pub fn type_answer(f: TypeFinding) -> u64
     ensures { result ≡ written_answer (typing-specs.finding_of f) }
 {
     match f {
-        TypeFinding::Written(length) => packed(WRITTEN, length, 0, 0, 0),
-        TypeFinding::Refused(refusal) => refused_answer(refusal.number(), refusal.place()),
+        Ok(length) => file_answer(length),
+        Err(refusal) => refused_answer(refusal.number(), refusal.place()),
     }
 }

@@ -1,6 +1,6 @@
 -- How the walk over a branch ends: the counts, as the code counts, the walk's answer, a number, and what is found then.
 -- Assumes nothing.
-use Rattle.std.specs.Prelude.{Bool, true, false, List, ◌≡◌, refl, ℕ, ◌+◌, ◌*◌, ◌/◌, ◌%◌, ◌≤◌, ◌<◌, max, eqb, ltb, get_or}
+use Rattle.std.specs.Prelude.{Bool, true, false, ◌≡◌, refl, ℕ, ◌+◌, ◌*◌, ◌/◌, ◌%◌, ◌≤◌, ◌<◌, max, eqb, ltb, Result, Ok, Err}
 use Rattle.std.proofs.Common.{ap, ◌∙◌, arith, lt-ltb, le-ltb}
 use Rattle.wire.specs.Choice.{pick}
 use Rattle.pattern.specs.Checks.Finding.{Finding, found, refused}
@@ -9,11 +9,6 @@ use Rattle.tableau.specs.declared.finding.Closed.{Closed}
 use Rattle.tableau.specs.declared.finding.WalkRefusal.{WalkRefusal}
 use Rattle.steps.specs.declared.step.StepRefusal.{StepRefusal}
 use Rattle.tableau.specs.Judging.{closed_by, walk_number, walk_place}
-use Rattle.branch_end.specs.declared.BranchEnd.{BranchEnd}
-
--- the counts that an array of three holds: clashes, forks, and the most lines
-abbrev pub counts_of : List ℕ → Counts
-counts_of cs = record { clashes = get_or cs 0 0; forks = get_or cs 1 0; most = get_or cs 2 0 }
 
 -- a clash on a branch of so many lines, a fork
 abbrev pub count_clash : ℕ → Counts → Counts
@@ -42,9 +37,9 @@ walk_refusal_of n k =
 
 -- how a walk that answers so ends, with these counts: the branch is closed, and the answer is the next step; or a refusal's number, and behind
 -- it the place
-unfoldable pub end_of : ℕ → Counts → BranchEnd
+unfoldable pub end_of : ℕ → Counts → Result (ℕ × Counts) WalkRefusal
 end_of answer c =
-    pick (ltb answer first_refusal) (BranchEnd.Closed answer c) (BranchEnd.Refused (walk_refusal_of (answer / first_refusal) (answer % first_refusal)))
+    pick (ltb answer first_refusal) (Ok (answer, c)) (Err (walk_refusal_of (answer / first_refusal) (answer % first_refusal)))
 
 -- ---- what is found
 
@@ -53,18 +48,18 @@ finished_if true s k c = refused 25 k
 finished_if false s k c = closed_by s (found c)
 
 -- what is found where the walk over the first branch ends so, of s steps: "25, all branches already closed"
-abbrev pub finished : ℕ → BranchEnd → Finding Closed
-finished s (BranchEnd.Closed k c) = finished_if (ltb k s) s k c
-finished s (BranchEnd.Refused refusal) = refused (walk_number refusal) (walk_place refusal)
+abbrev pub finished : ℕ → Result (ℕ × Counts) WalkRefusal → Finding Closed
+finished s (Ok (k, c)) = finished_if (ltb k s) s k c
+finished s (Err refusal) = refused (walk_number refusal) (walk_place refusal)
 
 -- ---- laws
 
-pub end_closed : (k : ℕ) (c : Counts) → k < first_refusal → end_of k c ≡ BranchEnd.Closed k c
+pub end_closed : (k : ℕ) (c : Counts) → k < first_refusal → end_of k c ≡ Ok (k, c)
 unfolding end_of
 end_closed k c h = rw (lt-ltb k first_refusal h) refl
 
 pub end_refused : (answer : ℕ) (c : Counts) → first_refusal ≤ answer
-    → end_of answer c ≡ BranchEnd.Refused (walk_refusal_of (answer / first_refusal) (answer % first_refusal))
+    → end_of answer c ≡ Err (walk_refusal_of (answer / first_refusal) (answer % first_refusal))
 unfolding end_of
 end_refused answer c h = rw (le-ltb answer first_refusal h) refl
 
@@ -91,10 +86,10 @@ some_number (WalkRefusal.AllClosed k) = omega arith
 some_number (WalkRefusal.StillOpen k) = omega arith
 
 -- and a walk whose answer has both ends with it
-pub end_code : (r : WalkRefusal) → walk_place r < first_refusal → (c : Counts) → end_of (code_of r) c ≡ BranchEnd.Refused r
+pub end_code : (r : WalkRefusal) → walk_place r < first_refusal → (c : Counts) → end_of (code_of r) c ≡ Err r
 end_code r h c =
     let n = walk_number r in
     let k = walk_place r in
     let number : (n * first_refusal + k) / first_refusal ≡ n = omega (arith, h) in
     let place : (n * first_refusal + k) % first_refusal ≡ k = omega (arith, h) in
-    end_refused (n * first_refusal + k) c (omega (arith, some_number r)) ∙ rw (number, place) (ap BranchEnd.Refused (refusal_back r))
+    end_refused (n * first_refusal + k) c (omega (arith, some_number r)) ∙ rw (number, place) (ap Err (refusal_back r))

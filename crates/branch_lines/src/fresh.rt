@@ -15,12 +15,10 @@ fn branch_has(area: &[u8], len: usize, name: Name) -> bool
     requires { 8 * len ≤ length area.now }
     ensures { result ≡ branch_has (lines_from area.now 0 len) name.number }
 {
-    let mut k = 0;
-    while k < len {
+    for k in 0..len {
         if line_has(area, k, name) {
             return true;
         }
-        k += 1;
     }
     false
 }

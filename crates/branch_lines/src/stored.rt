@@ -2,20 +2,12 @@
 ghost use Rattle.std.specs.Prelude.{◌≡◌, ◌+◌, ◌*◌, ◌≤◌, length};
 ghost use Rattle.lines.specs.declared.line.Line.{Line};
 ghost use Rattle.lines.specs.Lines.{line_has};
-ghost use Rattle.branch_lines.specs.Stored.{sign_number, sign_at, comparison_number, comparison_at, bytes_of, form_at, has_at, is_at, edge_at, compare_at, line_at, put_line};
+ghost use Rattle.branch_lines.specs.Stored.{sign_at, comparison_at, bytes_of, form_at, has_at, is_at, edge_at, compare_at, line_at, put_line};
 
 use lines::line::{CompareLine, EdgeLine, Form, HasLine, IsLine, Line, Side, channel_at};
 use pattern::types::{Axis, Comparison, Name, Sign};
 
-fn sign_number(sign: Sign) -> u8
-    ensures { result ≡ sign_number sign }
-{
-    match sign {
-        Sign::Positive => 0,
-        Sign::Negative => 1,
-    }
-}
-
+// The sign and the comparison of a stored bit: two types, each of two values.
 fn sign_at(number: u8) -> Sign
     ensures { result ≡ sign_at number }
 {
@@ -23,15 +15,6 @@ fn sign_at(number: u8) -> Sign
         return Sign::Positive;
     }
     Sign::Negative
-}
-
-fn comparison_number(comparison: Comparison) -> u8
-    ensures { result ≡ comparison_number comparison }
-{
-    match comparison {
-        Comparison::Same => 0,
-        Comparison::Differ => 1,
-    }
 }
 
 fn comparison_at(number: u8) -> Comparison
@@ -50,45 +33,25 @@ const COMPARISON: u8 = 255;
 fn compare_bytes(l: CompareLine) -> [u8; 8]
     ensures { result ≡ bytes_of (Line.Compare l) }
 {
-    let sign = l.sign;
-    let comparison = l.comparison;
-    let channel = l.channel;
-    let left = l.left;
-    let right = l.right;
     [
         COMPARISON,
-        sign_number(sign),
-        comparison_number(comparison),
-        channel.number(),
-        left.name.number,
-        left.path,
-        right.name.number,
-        right.path,
+        l.sign as u8,
+        l.comparison as u8,
+        l.channel as u8,
+        l.left.name.number,
+        l.left.path,
+        l.right.name.number,
+        l.right.path,
     ]
 }
 
-// The eight bytes of a line.
+// The eight bytes of a line, as it is stored: no conversion, since other bytes stand for a line too.
 fn bytes(line: Line) -> [u8; 8]
     ensures { result ≡ bytes_of line }
 {
     match line {
-        Line::Has(l) => {
-            let sign = l.sign;
-            [0, sign_number(sign), l.name.number, l.node, 0, 0, 0, 0]
-        }
-        Line::Is(l) => {
-            let sign = l.sign;
-            [
-                1,
-                sign_number(sign),
-                l.first.number,
-                l.second.number,
-                0,
-                0,
-                0,
-                0,
-            ]
-        }
+        Line::Has(l) => [0, l.sign as u8, l.name.number, l.node, 0, 0, 0, 0],
+        Line::Is(l) => [1, l.sign as u8, l.first.number, l.second.number, 0, 0, 0, 0],
         Line::Edge(l) => [2, l.axis.number, l.from.number, l.to.number, 0, 0, 0, 0],
         Line::Compare(l) => compare_bytes(l),
     }

@@ -5,7 +5,6 @@ use Rattle.lines.specs.declared.line.Line.{Line}
 use Rattle.rules.specs.declared.conclusion.Conclusion.{Conclusion}
 use Rattle.rules.specs.Sides.{sides}
 use Rattle.branch_lines.specs.Stored.{put_line}
-use Rattle.branch_step.specs.declared.Stop.{Stop}
 use Rattle.branch_step.specs.declared.Advance.{Advance}
 
 -- the lent bytes with these as lines from number k on
@@ -22,9 +21,9 @@ pushed_by xs len (new ∷ other ∷ more) = xs
 abbrev pub pushed : List ℕ → ℕ → Conclusion → List ℕ
 pushed xs len c = pushed_by xs len (sides c)
 
-abbrev pub advance_of : ℕ → ℕ → Conclusion → Advance
-advance_of k len (Conclusion.One l) = Advance.Grown (len + 1)
-advance_of k len (Conclusion.Two l m) = Advance.Grown (len + 2)
-advance_of k len (Conclusion.New i l m) = Advance.Grown (len + 2)
-advance_of k len (Conclusion.Fork l r) = Advance.Stopped (Stop.Fork k len l r)
-advance_of k len Conclusion.Clash = Advance.Stopped (Stop.Clash k len)
+abbrev pub advance_of : ℕ → Conclusion → Advance
+advance_of len (Conclusion.One l) = Advance.Grown (len + 1)
+advance_of len (Conclusion.Two l m) = Advance.Grown (len + 2)
+advance_of len (Conclusion.New i l m) = Advance.Grown (len + 2)
+advance_of len (Conclusion.Fork l r) = Advance.Fork l r
+advance_of len Conclusion.Clash = Advance.Clash

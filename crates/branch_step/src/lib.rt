@@ -13,22 +13,14 @@ ghost use Rattle.branch_step.specs.Step.{advance_of, pushed};
 use branch_lines::store;
 use lines::line::Line;
 use rules::conclusion::Conclusion;
-use tableau::finding::WalkRefusal;
 
-// Where the straight part of a branch ends: at a clash or a fork, with the number of that step and of
-// the lines that the branch has at it, and of a fork the line of each side; or at a refusal.
-#[derive(Clone, Copy)]
-pub enum Stop {
-    Clash(u16, u16),
-    Fork(u16, u16, Line, Line),
-    Refused(WalkRefusal),
-}
-
-// What one step does: the branch has so many lines after it, or it stops there.
+// What a conclusion does to a branch: the branch has so many lines after it, or its straight part ends
+// there, at a clash or at a fork with the line of each side.
 #[derive(Clone, Copy)]
 pub enum Advance {
     Grown(u16),
-    Stopped(Stop),
+    Clash,
+    Fork(Line, Line),
 }
 
 // The number of lines that a conclusion adds to a branch, or to each side.
@@ -36,10 +28,8 @@ pub fn added_by(c: Conclusion) -> u16
     ensures { (result ≡ longest (sides c)) × (result ≤ 2) }
 {
     match c {
-        Conclusion::One(_) => 1,
-        Conclusion::Two(_, _) => 2,
-        Conclusion::New(_, _, _) => 2,
-        Conclusion::Fork(_, _) => 1,
+        Conclusion::One(_) | Conclusion::Fork(_, _) => 1,
+        Conclusion::Two(_, _) | Conclusion::New(_, _, _) => 2,
         Conclusion::Clash => 0,
     }
 }
@@ -68,18 +58,17 @@ fn push_two(area: &mut [u8], len: u16, l: Line, m: Line) -> Advance
     Advance::Grown(len + 2)
 }
 
-// Adds the lines of step k's conclusion to a branch of so many lines.
-pub fn extend(area: &mut [u8], c: Conclusion, k: u16, len: u16) -> Advance
+// Adds the lines of a conclusion to a branch of so many lines.
+pub fn extend(area: &mut [u8], c: Conclusion, len: u16) -> Advance
     requires area_len { length area.old ≡ area_need }
     requires c_bound { len + longest (sides c) ≤ max_lines }
-    ensures advance { result ≡ advance_of k len c }
+    ensures advance { result ≡ advance_of len c }
     ensures area { area.new ≡ pushed area.old len c }
 {
     match c {
         Conclusion::One(l) => push(area, len, l),
-        Conclusion::Two(l, m) => push_two(area, len, l, m),
-        Conclusion::New(_, l, m) => push_two(area, len, l, m),
-        Conclusion::Fork(l, r) => Advance::Stopped(Stop::Fork(k, len, l, r)),
-        Conclusion::Clash => Advance::Stopped(Stop::Clash(k, len)),
+        Conclusion::Two(l, m) | Conclusion::New(_, l, m) => push_two(area, len, l, m),
+        Conclusion::Fork(l, r) => Advance::Fork(l, r),
+        Conclusion::Clash => Advance::Clash,
     }
 }

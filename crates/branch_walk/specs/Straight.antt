@@ -1,6 +1,6 @@
 -- The straight part of a branch that stands in lent bytes: what it is lent, and what each of its functions answers for.
 -- Assumes nothing.
-use Rattle.std.specs.Prelude.{List, ◌∷◌, ◌≡◌, ℕ, ◌+◌, ◌-◌, ◌*◌, ◌≤◌, ◌<◌, length}
+use Rattle.std.specs.Prelude.{List, ◌∷◌, ◌≡◌, ℕ, ◌+◌, ◌-◌, ◌*◌, ◌≤◌, ◌<◌, length, Result, Ok, Err}
 use Rattle.pattern.specs.Checks.Finding.{Finding, found, refused}
 use Rattle.lines.specs.declared.line.Line.{Line}
 use Rattle.rules.specs.declared.conclusion.Conclusion.{Conclusion}
@@ -9,7 +9,7 @@ use Rattle.steps.specs.AtStep.{AtStep}
 use Rattle.steps.specs.Steps.{step_at, steps_from, stepping}
 use Rattle.tableau.specs.declared.finding.Counts.{Counts}
 use Rattle.tableau.specs.declared.finding.WalkRefusal.{WalkRefusal}
-use Rattle.branch_step.specs.declared.Stop.{Stop}
+use Rattle.branch_walk.specs.declared.straight.Stop.{Stop}
 use Rattle.branch_step.specs.declared.Advance.{Advance}
 use Rattle.tableau.specs.Run.{run, max_lines}
 use Rattle.tableau.specs.Judging.{max_steps, area_need, walk_number, walk_place}
@@ -50,20 +50,22 @@ abbrev pub StepConcludes : List ℕ → List ℕ → ℕ → List ℕ → ℕ �
 StepConcludes bs ss s xs k len c = (k < s) × (stepping bs (lines_from xs 0 len) (step_at ss k) k ≡ found c)
 
 -- the straight part of a branch ends so
-abbrev pub StopSays : List ℕ → List ℕ → ℕ → List ℕ → ℕ → ℕ → Stop → List ℕ → Type 0
-StopSays bs ss s xs k len (Stop.Clash k' len') ys = Onto bs ss s xs k len ys k' len' × StepConcludes bs ss s ys k' len' Conclusion.Clash
-StopSays bs ss s xs k len (Stop.Fork k' len' l r) ys =
+abbrev pub StopSays : List ℕ → List ℕ → ℕ → List ℕ → ℕ → ℕ → Result Stop WalkRefusal → List ℕ → Type 0
+StopSays bs ss s xs k len (Ok (Stop.Clash k' len')) ys = Onto bs ss s xs k len ys k' len' × StepConcludes bs ss s ys k' len' Conclusion.Clash
+StopSays bs ss s xs k len (Ok (Stop.Fork k' len' l r)) ys =
     Onto bs ss s xs k len ys k' len' × (StepConcludes bs ss s ys k' len' (Conclusion.Fork l r) × (len' < max_lines))
-StopSays bs ss s xs k len (Stop.Refused refusal) ys = Refuses bs ss s xs k len refusal
+StopSays bs ss s xs k len (Err refusal) ys = Refuses bs ss s xs k len refusal
 
 -- StopSays computes by the case of the stop, and a law can't find its arguments under it: the record keeps them. So do Advances and Walks.
-pub record Stops (bs ss : List ℕ) (s : ℕ) (xs : List ℕ) (k len : ℕ) (stop : Stop) (ys : List ℕ) : Type 0 where
+pub record Stops (bs ss : List ℕ) (s : ℕ) (xs : List ℕ) (k len : ℕ) (stop : Result Stop WalkRefusal) (ys : List ℕ) : Type 0 where
   pub says : StopSays bs ss s xs k len stop ys
 
 -- one step leads on, or ends the straight part
-abbrev pub AdvanceSays : List ℕ → List ℕ → ℕ → List ℕ → ℕ → ℕ → Advance → List ℕ → Type 0
-AdvanceSays bs ss s xs k len (Advance.Grown len') ys = Onto bs ss s xs k len ys (k + 1) len'
-AdvanceSays bs ss s xs k len (Advance.Stopped stop) ys = Stops bs ss s xs k len stop ys
+abbrev pub AdvanceSays : List ℕ → List ℕ → ℕ → List ℕ → ℕ → ℕ → Result Advance WalkRefusal → List ℕ → Type 0
+AdvanceSays bs ss s xs k len (Ok (Advance.Grown len')) ys = Onto bs ss s xs k len ys (k + 1) len'
+AdvanceSays bs ss s xs k len (Ok Advance.Clash) ys = Stops bs ss s xs k len (Ok (Stop.Clash k len)) ys
+AdvanceSays bs ss s xs k len (Ok (Advance.Fork l r)) ys = Stops bs ss s xs k len (Ok (Stop.Fork k len l r)) ys
+AdvanceSays bs ss s xs k len (Err refusal) ys = Stops bs ss s xs k len (Err refusal) ys
 
-pub record Advances (bs ss : List ℕ) (s : ℕ) (xs : List ℕ) (k len : ℕ) (advance : Advance) (ys : List ℕ) : Type 0 where
+pub record Advances (bs ss : List ℕ) (s : ℕ) (xs : List ℕ) (k len : ℕ) (advance : Result Advance WalkRefusal) (ys : List ℕ) : Type 0 where
   pub says : AdvanceSays bs ss s xs k len advance ys

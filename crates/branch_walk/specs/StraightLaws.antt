@@ -1,6 +1,6 @@
 -- The straight part of a branch follows `run`: a law for each way out of its functions.
 -- Assumes nothing.
-use Rattle.std.specs.Prelude.{Bool, true, false, ◌≡◌, refl, ℕ, zero, suc, ◌+◌, ◌-◌, ◌*◌, ◌≤◌, ◌<◌, ltb, length}
+use Rattle.std.specs.Prelude.{Bool, true, false, ◌≡◌, refl, ℕ, zero, suc, ◌+◌, ◌-◌, ◌*◌, ◌≤◌, ◌<◌, ltb, length, Result, Ok, Err}
 use mathlib.Core.List.{List, [], ◌∷◌, ◌++◌, append_assoc, append-nil}
 use Rattle.std.proofs.Common.{sym, ◌∙◌, subst, le_refl, le_trans, le_antisymm, add-zero, arith, add-one, le-ltb, lt-ltb, ltb-true, ltb-false}
 use Rattle.std.proofs.Math.Path.{ap}
@@ -11,14 +11,13 @@ use Rattle.lines.specs.declared.line.Line.{Line}
 use Rattle.steps.specs.declared.step.Step.{Step}
 use Rattle.rules.specs.declared.conclusion.Conclusion.{Conclusion}
 use Rattle.steps.specs.declared.step.StepRefusal.{StepRefusal}
-use Rattle.steps.specs.declared.step.StepAnswer.{StepAnswer}
 use Rattle.lines.specs.Formed.{Formed, AllFormed}
 use Rattle.branch_lines.specs.Stored.{line_at, lines_from, put_line, length_put, put_same, put_other, length_lines, push_line}
 use Rattle.soundness.specs.FormedRules.{EachFormed, FormedConclusion, step_formed}
 use Rattle.steps.specs.Steps.{step_at, steps_from, stepping, answer_of, found_follows}
 use Rattle.tableau.specs.declared.finding.Counts.{Counts}
 use Rattle.tableau.specs.declared.finding.WalkRefusal.{WalkRefusal}
-use Rattle.branch_step.specs.declared.Stop.{Stop}
+use Rattle.branch_walk.specs.declared.straight.Stop.{Stop}
 use Rattle.branch_step.specs.declared.Advance.{Advance}
 use Rattle.tableau.specs.Run.{run, max_lines, max_waiting, longest, further, limits_check, branches, counted}
 use Rattle.tableau.proofs.RunCloses.{same_counts}
@@ -243,7 +242,7 @@ module _ {bs ss : List ℕ} {s : ℕ} where
   -- a step that follows its rule and keeps to 1,024 lines
   pub step_concludes : {xs : List ℕ} {k len : ℕ} → WalkLent bs ss s xs k len → (con : Conclusion)
       → StepConcludes bs ss s xs k len con → len + longest (sides con) ≤ max_lines
-      → Advances bs ss s xs k len (advance_of k len con) (pushed xs len con)
+      → Advances bs ss s xs k len (Ok (advance_of len con)) (pushed xs len con)
   step_concludes lent (Conclusion.One l) h m = record { says = onto_side lent (Conclusion.One l) (l ∷ []) refl h m }
   step_concludes lent (Conclusion.Two l o) h m = record { says = onto_side lent (Conclusion.Two l o) (l ∷ o ∷ []) refl h m }
   step_concludes lent (Conclusion.New i l o) h m = record { says = onto_side lent (Conclusion.New i l o) (l ∷ o ∷ []) refl h m }
@@ -253,7 +252,7 @@ module _ {bs ss : List ℕ} {s : ℕ} where
   -- a step over the limit, and one that is refused by its rule
   pub step_long : {xs : List ℕ} {k len : ℕ} → WalkLent bs ss s xs k len → (con : Conclusion)
       → StepConcludes bs ss s xs k len con → max_lines < len + longest (sides con) → {ys : List ℕ}
-      → Advances bs ss s xs k len (Advance.Stopped (Stop.Refused (WalkRefusal.Lines k))) ys
+      → Advances bs ss s xs k len (Err (WalkRefusal.Lines k)) ys
   step_long {xs} {k} {len} lent con h m =
       record {
         says =
@@ -261,9 +260,9 @@ module _ {bs ss : List ℕ} {s : ℕ} where
       }
 
   pub step_refused : {xs : List ℕ} {k len : ℕ} → WalkLent bs ss s xs k len
-      → (answer : StepAnswer) (refusal : StepRefusal) → answer ≡ StepAnswer.Refused refusal → k < s
+      → (answer : Result Conclusion StepRefusal) (refusal : StepRefusal) → answer ≡ Err refusal → k < s
       → answer_of answer ≡ stepping bs (lines_from xs 0 len) (step_at ss k) k → {ys : List ℕ}
-      → Advances bs ss s xs k len (Advance.Stopped (Stop.Refused (WalkRefusal.Step refusal))) ys
+      → Advances bs ss s xs k len (Err (WalkRefusal.Step refusal)) ys
   step_refused {xs} {k} {len} lent answer refusal q h e =
       record {
         says = record { says = λ ws c. run_refused bs ss s k (lines_from xs 0 len) ws c _ _ h (sym e ∙ ap answer_of q) };
@@ -272,21 +271,21 @@ module _ {bs ss : List ℕ} {s : ℕ} where
   -- ---- the straight part of a branch
 
   pub straight_grows : {xs : List ℕ} {k len : ℕ} {ys : List ℕ} {k' len' : ℕ} {zs : List ℕ} {len'' : ℕ}
-      → Onto bs ss s xs k len ys k' len' → Advances bs ss s ys k' len' (Advance.Grown len'') zs → Onto bs ss s xs k len zs (k' + 1) len''
+      → Onto bs ss s xs k len ys k' len' → Advances bs ss s ys k' len' (Ok (Advance.Grown len'')) zs → Onto bs ss s xs k len zs (k' + 1) len''
   straight_grows a h = onto_then a h.says
 
-  pub straight_stops : {xs : List ℕ} {k len : ℕ} {ys : List ℕ} {k' len' : ℕ} {zs : List ℕ} {stop : Stop}
-      → Onto bs ss s xs k len ys k' len' → Advances bs ss s ys k' len' (Advance.Stopped stop) zs → Stops bs ss s xs k len stop zs
-  straight_stops {xs} {k} {len} {ys} {k'} {len'} {zs} {stop} a h = record { says = go stop h.says.says }
+  pub straight_stops : {xs : List ℕ} {k len : ℕ} {ys : List ℕ} {k' len' : ℕ} {zs : List ℕ} {stop : Result Stop WalkRefusal}
+      → Onto bs ss s xs k len ys k' len' → Stops bs ss s ys k' len' stop zs → Stops bs ss s xs k len stop zs
+  straight_stops {xs} {k} {len} {ys} {k'} {len'} {zs} {stop} a h = record { says = go stop h.says }
     where
-      go : (stop : Stop) → StopSays bs ss s ys k' len' stop zs → StopSays bs ss s xs k len stop zs
-      go (Stop.Clash i j) h = (onto_then a h.0, h.1)
-      go (Stop.Fork i j l r) h = (onto_then a h.0, h.1)
-      go (Stop.Refused refusal) h = λ ws c. a.same ws c ∙ h ws c
+      go : (stop : Result Stop WalkRefusal) → StopSays bs ss s ys k' len' stop zs → StopSays bs ss s xs k len stop zs
+      go (Ok (Stop.Clash i j)) h = (onto_then a h.0, h.1)
+      go (Ok (Stop.Fork i j l r)) h = (onto_then a h.0, h.1)
+      go (Err refusal) h = λ ws c. a.same ws c ∙ h ws c
 
   -- no step is left
   pub straight_open : {xs : List ℕ} {k len : ℕ} {ys : List ℕ} {k' len' : ℕ}
-      → Onto bs ss s xs k len ys k' len' → s ≤ k' → Stops bs ss s xs k len (Stop.Refused (WalkRefusal.StillOpen s)) ys
+      → Onto bs ss s xs k len ys k' len' → s ≤ k' → Stops bs ss s xs k len (Err (WalkRefusal.StillOpen s)) ys
   straight_open {xs} {k} {len} {ys} {k'} {len'} a h =
       record {
         says = λ ws c. a.same ws c ∙ run_open bs ss s k' (lines_from ys 0 len') ws c h ∙ ap (refused 26) (le_antisymm a.lent.steps_left h);

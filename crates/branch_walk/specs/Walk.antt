@@ -1,6 +1,6 @@
 -- The walk over a branch that stands in lent bytes: what it answers for, and what is found at its end.
 -- Assumes nothing.
-use Rattle.std.specs.Prelude.{List, [], ◌∷◌, ◌≡◌, ℕ, ◌-◌, ◌≤◌, ◌<◌, length}
+use Rattle.std.specs.Prelude.{List, [], ◌∷◌, ◌≡◌, ℕ, ◌-◌, ◌≤◌, ◌<◌, length, Result, Ok, Err}
 use Rattle.pattern.specs.declared.types.Name.{Name}
 use Rattle.pattern.specs.declared.types.Sign.{Sign}
 use Rattle.pattern.specs.Checks.Finding.{Finding, refused}
@@ -10,8 +10,8 @@ use Rattle.branch_lines.specs.Stored.{lines_from}
 use Rattle.steps.specs.Steps.{steps_from}
 use Rattle.tableau.specs.declared.finding.Counts.{Counts}
 use Rattle.tableau.specs.declared.finding.Closed.{Closed}
-use Rattle.branch_end.specs.declared.BranchEnd.{BranchEnd}
-use Rattle.branch_end.specs.Ends.{counts_of, end_of}
+use Rattle.tableau.specs.declared.finding.WalkRefusal.{WalkRefusal}
+use Rattle.branch_end.specs.Ends.{end_of}
 use Rattle.branch_walk.specs.Straight.{remaining, Leaves}
 use Rattle.tableau.specs.Run.{run, none, max_lines}
 use Rattle.tableau.specs.Judging.{closed_by, walk_number, walk_place}
@@ -34,18 +34,18 @@ pub record ClosedAt (bs ss : List ℕ) (s : ℕ) (xs : List ℕ) (k len waiting 
       → remaining bs ss s k (lines_from xs 0 len ∷ ws) c ≡ remaining bs ss s k' ws c'
 
 -- the walk over a branch finds so, with so many right sides waiting
-abbrev pub WalkSays : List ℕ → List ℕ → ℕ → List ℕ → ℕ → ℕ → ℕ → Counts → BranchEnd → List ℕ → Type 0
-WalkSays bs ss s xs k len waiting c (BranchEnd.Closed k' c') ys = ClosedAt bs ss s xs k len waiting c k' c' ys
-WalkSays bs ss s xs k len waiting c (BranchEnd.Refused refusal) ys =
+abbrev pub WalkSays : List ℕ → List ℕ → ℕ → List ℕ → ℕ → ℕ → ℕ → Counts → Result (ℕ × Counts) WalkRefusal → List ℕ → Type 0
+WalkSays bs ss s xs k len waiting c (Ok (k', c')) ys = ClosedAt bs ss s xs k len waiting c k' c' ys
+WalkSays bs ss s xs k len waiting c (Err refusal) ys =
     (ws : List (List Line)) → length ws ≡ waiting
     → remaining bs ss s k (lines_from xs 0 len ∷ ws) c ≡ refused (walk_number refusal) (walk_place refusal)
 
-pub record Walks (bs ss : List ℕ) (s : ℕ) (xs : List ℕ) (k len waiting : ℕ) (c : Counts) (end : BranchEnd) (ys : List ℕ) : Type 0 where
+pub record Walks (bs ss : List ℕ) (s : ℕ) (xs : List ℕ) (k len waiting : ℕ) (c : Counts) (end : Result (ℕ × Counts) WalkRefusal) (ys : List ℕ) : Type 0 where
   pub says : WalkSays bs ss s xs k len waiting c end ys
 
--- the same of the code's walk, which has the counts in arrays and answers with a number
-abbrev pub Walked : List ℕ → List ℕ → ℕ → List ℕ → ℕ → ℕ → ℕ → List ℕ → ℕ → List ℕ → List ℕ → Type 0
-Walked bs ss s xs k len waiting cs answer ds ys = Walks bs ss s xs k len waiting (counts_of cs) (end_of answer (counts_of ds)) ys
+-- the same of the code's walk, which answers with a number
+abbrev pub Walked : List ℕ → List ℕ → ℕ → List ℕ → ℕ → ℕ → ℕ → Counts → ℕ → Counts → List ℕ → Type 0
+Walked bs ss s xs k len waiting c answer c' ys = Walks bs ss s xs k len waiting c (end_of answer c') ys
 
 -- ---- the end of the walk
 

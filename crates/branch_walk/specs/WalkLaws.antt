@@ -1,6 +1,6 @@
 -- The walk over a branch follows `run`: a law for each way out of its functions.
 -- Assumes nothing.
-use Rattle.std.specs.Prelude.{Bool, true, false, List, [], ◌∷◌, ◌++◌, ◌≡◌, refl, ℕ, suc, ◌+◌, ◌-◌, ◌*◌, ◌≤◌, ◌<◌, ltb, length}
+use Rattle.std.specs.Prelude.{Bool, true, false, List, [], ◌∷◌, ◌++◌, ◌≡◌, refl, ℕ, suc, ◌+◌, ◌-◌, ◌*◌, ◌≤◌, ◌<◌, ltb, length, Result, Ok, Err}
 use Rattle.std.proofs.Common.{sym, ap, ◌∙◌, subst, le_refl, le_trans, add-zero, arith, ltb-true, ltb-false}
 use Rattle.std.proofs.Math.Nat.{sub-zero, max-le}
 use Rattle.pattern.specs.Checks.Finding.{found, refused}
@@ -20,8 +20,7 @@ use Rattle.branch_lines.specs.Stored.{line_at, lines_from, put_line, length_put,
 use Rattle.steps.specs.Steps.{steps_from}
 use Rattle.tableau.specs.declared.finding.Counts.{Counts}
 use Rattle.tableau.specs.declared.finding.WalkRefusal.{WalkRefusal}
-use Rattle.branch_step.specs.declared.Stop.{Stop}
-use Rattle.branch_end.specs.declared.BranchEnd.{BranchEnd}
+use Rattle.branch_walk.specs.declared.straight.Stop.{Stop}
 use Rattle.branch_end.specs.Ends.{count_clash, count_fork, finished_if, finished}
 use Rattle.tableau.specs.Run.{run, max_waiting, counted, none}
 use Rattle.tableau.proofs.RunCloses.{same_counts}
@@ -64,13 +63,13 @@ module _ {bs ss : List ℕ} {s : ℕ} where
 
   -- the straight part is refused
   pub walk_refused : {xs : List ℕ} {k len waiting : ℕ} {c : Counts} {refusal : WalkRefusal} {ys : List ℕ}
-      → Stops bs ss s xs k len (Stop.Refused refusal) ys → Walks bs ss s xs k len waiting c (BranchEnd.Refused refusal) ys
+      → Stops bs ss s xs k len (Err refusal) ys → Walks bs ss s xs k len waiting c (Err refusal) ys
   walk_refused {c = c} h = record { says = λ ws w. h.says ws c }
 
   -- the branch ends with a clash
   pub walk_clash : {xs : List ℕ} {k len waiting : ℕ} {c : Counts} {k' len' : ℕ} {ys : List ℕ}
-      → Bounded k c → Stops bs ss s xs k len (Stop.Clash k' len') ys
-      → Walks bs ss s xs k len waiting c (BranchEnd.Closed (k' + 1) (count_clash len' c)) ys
+      → Bounded k c → Stops bs ss s xs k len (Ok (Stop.Clash k' len')) ys
+      → Walks bs ss s xs k len waiting c (Ok (k' + 1, count_clash len' c)) ys
   walk_clash {xs} {k} {len} {waiting} {c} {k'} {len'} {ys} few h =
       let onto = h.says.0 in
       let concludes = h.says.1 in
@@ -95,8 +94,8 @@ module _ {bs ss : List ℕ} {s : ℕ} where
 
   -- "24, fork with 64 right sides already waiting"
   pub walk_crowded : {xs : List ℕ} {k len waiting : ℕ} {c : Counts} {k' len' : ℕ} {l r : Line}
-      {ys : List ℕ} → Stops bs ss s xs k len (Stop.Fork k' len' l r) ys → max_waiting ≤ waiting
-      → Walks bs ss s xs k len waiting c (BranchEnd.Refused (WalkRefusal.Waiting k')) ys
+      {ys : List ℕ} → Stops bs ss s xs k len (Ok (Stop.Fork k' len' l r)) ys → max_waiting ≤ waiting
+      → Walks bs ss s xs k len waiting c (Err (WalkRefusal.Waiting k')) ys
   walk_crowded {xs} {k} {len} {waiting} {c} {k'} {len'} {l} {r} {ys} h m =
       let onto = h.says.0 in
       let concludes = h.says.1.0 in
@@ -109,7 +108,7 @@ module _ {bs ss : List ℕ} {s : ℕ} where
 
   -- the left side is lent the branch with its line
   pub left_lent : {xs : List ℕ} {k len : ℕ} {k' len' : ℕ} {l r : Line} {ys : List ℕ}
-      → Stops bs ss s xs k len (Stop.Fork k' len' l r) ys → WalkLent bs ss s (put_line ys len' l) (k' + 1) (len' + 1)
+      → Stops bs ss s xs k len (Ok (Stop.Fork k' len' l r)) ys → WalkLent bs ss s (put_line ys len' l) (k' + 1) (len' + 1)
   left_lent {k' = k'} {l = l} {r = r} h =
       let lent = h.says.0.lent in
       let concludes = h.says.1.0 in
@@ -117,7 +116,7 @@ module _ {bs ss : List ℕ} {s : ℕ} where
 
   -- what is counted at the left side
   pub fork_bounded : {xs : List ℕ} {k len : ℕ} {c : Counts} {k' len' : ℕ} {l r : Line} {ys : List ℕ}
-      → Bounded k c → Stops bs ss s xs k len (Stop.Fork k' len' l r) ys → Bounded (k' + 1) (count_fork c)
+      → Bounded k c → Stops bs ss s xs k len (Ok (Stop.Fork k' len' l r)) ys → Bounded (k' + 1) (count_fork c)
   fork_bounded few h =
       let later = h.says.0.later in
       record {
@@ -128,8 +127,8 @@ module _ {bs ss : List ℕ} {s : ℕ} where
 
   -- the right side, once the left is closed, is lent the branch with its own line
   pub right_lent : {xs : List ℕ} {k len : ℕ} {k' len' : ℕ} {l r : Line} {ys : List ℕ}
-      → Stops bs ss s xs k len (Stop.Fork k' len' l r) ys → {waiting : ℕ} {c : Counts} {next : ℕ} {c' : Counts} {zs : List ℕ}
-      → Walks bs ss s (put_line ys len' l) (k' + 1) (len' + 1) waiting c (BranchEnd.Closed next c') zs → length zs ≡ length ys
+      → Stops bs ss s xs k len (Ok (Stop.Fork k' len' l r)) ys → {waiting : ℕ} {c : Counts} {next : ℕ} {c' : Counts} {zs : List ℕ}
+      → Walks bs ss s (put_line ys len' l) (k' + 1) (len' + 1) waiting c (Ok (next, c')) zs → length zs ≡ length ys
       → WalkLent bs ss s (put_line zs len' r) next (len' + 1)
   right_lent {len' = len'} {l = l} {r = r} {ys = ys} h {next = next} {zs = zs} left e =
       let lent = h.says.0.lent in
@@ -139,7 +138,7 @@ module _ {bs ss : List ℕ} {s : ℕ} where
 
   -- a fork: both sides are open, the left one first
   fork_open : {xs : List ℕ} {k len : ℕ} {k' len' : ℕ} {l r : Line} {ys : List ℕ}
-      → Stops bs ss s xs k len (Stop.Fork k' len' l r) ys → (c : Counts) (ws : List (List Line)) → length ws < max_waiting
+      → Stops bs ss s xs k len (Ok (Stop.Fork k' len' l r)) ys → (c : Counts) (ws : List (List Line)) → length ws < max_waiting
       → remaining bs ss s k (lines_from xs 0 len ∷ ws) c
       ≡ remaining bs ss s (k' + 1) (lines_from (put_line ys len' l) 0 (len' + 1) ∷ (lines_from ys 0 len' ++ r ∷ []) ∷ ws) (count_fork c)
   fork_open {xs} {k} {len} {k'} {len'} {l} {r} {ys} h c ws w =
@@ -155,17 +154,17 @@ module _ {bs ss : List ℕ} {s : ℕ} where
 
   -- a refusal on the left side
   pub walk_left_refused : {xs : List ℕ} {k len waiting : ℕ} {c : Counts} {k' len' : ℕ} {l r : Line}
-      {ys : List ℕ} → Stops bs ss s xs k len (Stop.Fork k' len' l r) ys → waiting < max_waiting → {refusal : WalkRefusal} {zs : List ℕ}
-      → Walks bs ss s (put_line ys len' l) (k' + 1) (len' + 1) (waiting + 1) (count_fork c) (BranchEnd.Refused refusal) zs
-      → Walks bs ss s xs k len waiting c (BranchEnd.Refused refusal) zs
+      {ys : List ℕ} → Stops bs ss s xs k len (Ok (Stop.Fork k' len' l r)) ys → waiting < max_waiting → {refusal : WalkRefusal} {zs : List ℕ}
+      → Walks bs ss s (put_line ys len' l) (k' + 1) (len' + 1) (waiting + 1) (count_fork c) (Err refusal) zs
+      → Walks bs ss s xs k len waiting c (Err refusal) zs
   walk_left_refused {c = c} {len' = len'} {r = r} {ys = ys} h m left =
       record { says = λ ws w. fork_open h c ws (rw w m) ∙ left.says ((lines_from ys 0 len' ++ r ∷ []) ∷ ws) (one_waits w) }
 
   -- both sides: what the right side finds is what the branch finds
   pub walk_right : {xs : List ℕ} {k len waiting : ℕ} {c : Counts} {k' len' : ℕ} {l r : Line}
-      {ys : List ℕ} → Stops bs ss s xs k len (Stop.Fork k' len' l r) ys → waiting < max_waiting → {next : ℕ} {c' : Counts} {zs : List ℕ}
-      → Walks bs ss s (put_line ys len' l) (k' + 1) (len' + 1) (waiting + 1) (count_fork c) (BranchEnd.Closed next c') zs
-      → length zs ≡ length ys → {ending : BranchEnd} {us : List ℕ} → Walks bs ss s (put_line zs len' r) next (len' + 1) waiting c' ending us
+      {ys : List ℕ} → Stops bs ss s xs k len (Ok (Stop.Fork k' len' l r)) ys → waiting < max_waiting → {next : ℕ} {c' : Counts} {zs : List ℕ}
+      → Walks bs ss s (put_line ys len' l) (k' + 1) (len' + 1) (waiting + 1) (count_fork c) (Ok (next, c')) zs
+      → length zs ≡ length ys → {ending : Result (ℕ × Counts) WalkRefusal} {us : List ℕ} → Walks bs ss s (put_line zs len' r) next (len' + 1) waiting c' ending us
       → Walks bs ss s xs k len waiting c ending us
   walk_right {xs} {k} {len} {waiting} {c} {k'} {len'} {l} {r} {ys} h m {next} {c'} {zs} left e {ending} {us} right =
       record { says = go ending right.says }
@@ -190,9 +189,9 @@ module _ {bs ss : List ℕ} {s : ℕ} where
           fork_open h c ws (rw w m) ∙ closed.answers ((lines_from ys 0 len' ++ r ∷ []) ∷ ws) (one_waits w)
           ∙ ap (λ (a : List Line). remaining bs ss s next (a ∷ ws) c') (sym same)
 
-      go : (ending : BranchEnd) → WalkSays bs ss s (put_line zs len' r) next (len' + 1) waiting c' ending us
+      go : (ending : Result (ℕ × Counts) WalkRefusal) → WalkSays bs ss s (put_line zs len' r) next (len' + 1) waiting c' ending us
           → WalkSays bs ss s xs k len waiting c ending us
-      go (BranchEnd.Closed last c'') end =
+      go (Ok (last, c'')) end =
           record {
             later = omega (arith, onto.later, closed.later, end.later);
             steps_left = end.steps_left;
@@ -202,7 +201,7 @@ module _ {bs ss : List ℕ} {s : ℕ} where
                 side_leaves zs len' r us end.leaves j i' ∙ before j i' ∙ onto.leaves j i;
             answers = λ ws w. both ws w ∙ end.answers ws w;
           }
-      go (BranchEnd.Refused refusal) end = λ ws w. both ws w ∙ end ws w
+      go (Err refusal) end = λ ws w. both ws w ∙ end ws w
 
 -- ---- the first branch
 
@@ -245,7 +244,7 @@ pub none_bounded : Bounded 0 none
 none_bounded = record { few_clashes = le_refl 0; few_forks = le_refl 0; few_most = omega arith }
 
 -- what is found is what the walk ends with
-pub walk_finishes : {bs : List ℕ} {ss : List ℕ} {s : ℕ} (xs : List ℕ) {ending : BranchEnd} {ys : List ℕ} (l : Line) → 8 ≤ length xs
+pub walk_finishes : {bs : List ℕ} {ss : List ℕ} {s : ℕ} (xs : List ℕ) {ending : Result (ℕ × Counts) WalkRefusal} {ys : List ℕ} (l : Line) → 8 ≤ length xs
     → Walks bs ss s (put_line xs 0 l) 0 1 0 none ending ys
     → finished s ending ≡ closed_by s (run bs ((l ∷ []) ∷ []) (steps_from ss 0 s) 0 none)
 unfolding lines_from
@@ -260,10 +259,10 @@ walk_finishes {bs} {ss} {s} xs {ending} {ys} l long h =
     ends k c true e le = sym (ap (closed_by s) (run_closed bs ss s k c (ltb-true k s e)))
     ends k c false e le = sym (ap (closed_by s) (run_found bs ss s k c (ltb-false k s e)))
 
-    go : (ending : BranchEnd) → WalkSays bs ss s (put_line xs 0 l) 0 1 0 none ending ys
+    go : (ending : Result (ℕ × Counts) WalkRefusal) → WalkSays bs ss s (put_line xs 0 l) 0 1 0 none ending ys
         → finished s ending ≡ closed_by s (remaining bs ss s 0 (b ∷ []) none)
-    go (BranchEnd.Closed k c) end = ends k c (ltb k s) refl end.steps_left ∙ sym (ap (closed_by s) (end.answers [] refl))
-    go (BranchEnd.Refused refusal) end = sym (ap (closed_by s) (end [] refl))
+    go (Ok (k, c)) end = ends k c (ltb k s) refl end.steps_left ∙ sym (ap (closed_by s) (end.answers [] refl))
+    go (Err refusal) end = sym (ap (closed_by s) (end [] refl))
 
 -- "refusals 19 to 26 and closed zero its first 8,192 bytes"
 late : (refusal : WalkRefusal) → clears (walk_number refusal) ≡ true
@@ -276,10 +275,10 @@ late (WalkRefusal.Waiting k) = refl
 late (WalkRefusal.AllClosed k) = refl
 late (WalkRefusal.StillOpen k) = refl
 
-pub finished_clears : (s : ℕ) (ending : BranchEnd) (xs : List ℕ) → area_after (finished s ending) xs ≡ cleared area_need xs
-finished_clears s (BranchEnd.Closed k c) xs = go (ltb k s)
+pub finished_clears : (s : ℕ) (ending : Result (ℕ × Counts) WalkRefusal) (xs : List ℕ) → area_after (finished s ending) xs ≡ cleared area_need xs
+finished_clears s (Ok (k, c)) xs = go (ltb k s)
   where
     go : (t : Bool) → area_after (finished_if t s k c) xs ≡ cleared area_need xs
     go true = refl
     go false = refl
-finished_clears s (BranchEnd.Refused refusal) xs = rw (late refusal) refl
+finished_clears s (Err refusal) xs = rw (late refusal) refl

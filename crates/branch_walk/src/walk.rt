@@ -6,21 +6,19 @@ ghost use Rattle.wire.specs.Cleared.{cleared};
 ghost use Rattle.pattern.specs.Checks.Finding.{found};
 ghost use Rattle.pattern.specs.File.Reading.{reading_of};
 ghost use Rattle.pattern.specs.Meaning.Names.{uses_name};
-ghost use Rattle.names.specs.Set.{SetOf, names_of};
+ghost use Rattle.names.specs.Set.{SetOf};
 ghost use Rattle.tableau.specs.Run.{max_waiting};
 ghost use Rattle.tableau.specs.Judging.{max_steps, area_need, area_after, finding_of};
-ghost use Rattle.branch_end.specs.Ends.{counts_of};
 ghost use Rattle.branch_walk.specs.Straight.{WalkLent};
 ghost use Rattle.branch_walk.specs.Walk.{Bounded, Walked, steps_found};
 
-use crate::straight::straight;
+use crate::straight::{Given, Stop, straight};
 use branch_end::{FIRST_REFUSAL, count_clash, count_fork, end_of, finish, refusal_code};
 use branch_lines::store;
-use branch_step::Stop;
 use lines::line::{HasLine, Line};
 use names::NameSet;
 use pattern::types::{Name, Sign};
-use tableau::finding::{TableauFinding, WalkRefusal};
+use tableau::finding::{Counts, TableauFinding, WalkRefusal};
 use wire::clear;
 
 // Document 01's bound on the right sides that wait.
@@ -32,46 +30,43 @@ const MAX_WAITING: u8 = 64;
 //
 // The call for the right side comes last and is to be a jump, so that the stack doesn't grow with right
 // sides. The compiler makes it one only where each argument is a number or a plain reference and the
-// answer is a number; of a slice, a struct or an enum it passes the address of a copy. So the slices come
-// by references to them, the set of names as two numbers and the counts in an array. `long` and `same`:
-// the reference still leads to the caller's slice, as long as it was.
+// answer is a number; of a slice, a struct or an enum it passes the address of a copy. So what is given,
+// the area and the counts come by references to them. `long` and `same`: the reference still leads
+// to the caller's slice, as long as it was.
 fn walk(
-    p: &&[u8],
-    used: &[u64; 2],
-    steps: &&[u8],
-    s: u16,
+    given: &Given,
     area: &mut &mut [u8],
     k: u16,
     len: u16,
     waiting: u8,
-    counts: &mut [u16; 3],
+    counts: &mut Counts,
 ) -> u32
-    requires walk_lent { WalkLent p.now.now steps.now.now s area.old.now k len }
-    requires set_of { SetOf (uses_name p.now.now) (names_of used.now) }
-    requires waiting_le_max_waiting { (waiting ≤ max_waiting) × Bounded k (counts_of counts.old) }
-    ensures walks { Walked p.now.now steps.now.now s area.old.now k len waiting counts.old result counts.new area.new.now }
+    requires walk_lent { WalkLent given.now.p.now given.now.steps.now given.now.s area.old.now k len }
+    requires set_of { SetOf (uses_name given.now.p.now) given.now.used }
+    requires waiting_le_max_waiting { (waiting ≤ max_waiting) × Bounded k counts.old }
+    ensures walks { Walked given.now.p.now given.now.steps.now given.now.s area.old.now k len waiting counts.old result counts.new area.new.now }
     ensures long { length area.new.now ≡ length area.old.now }
     ensures same { area.new.ghost_name ≡ area.old.ghost_name }
 {
-    match straight(*p, NameSet::of_numbers(used), *steps, s, *area, k, len) {
-        Stop::Refused(refusal) => refusal_code(refusal),
-        Stop::Clash(at, lines) => {
+    match straight(given, *area, k, len) {
+        Err(refusal) => refusal_code(refusal),
+        Ok(Stop::Clash(at, lines)) => {
             count_clash(counts, lines);
             at as u32 + 1
         }
-        Stop::Fork(at, lines, left, right) => {
+        Ok(Stop::Fork(at, lines, left, right)) => {
             if MAX_WAITING <= waiting {
                 return refusal_code(WalkRefusal::Waiting(at));
             }
             let more = lines + 1;
             store(*area, lines as usize, left);
             count_fork(counts);
-            let next = walk(p, used, steps, s, area, at + 1, more, waiting + 1, counts);
+            let next = walk(given, area, at + 1, more, waiting + 1, counts);
             if FIRST_REFUSAL <= next {
                 return next;
             }
             store(*area, lines as usize, right);
-            walk(p, used, steps, s, area, next as u16, more, waiting, counts)
+            walk(given, area, next as u16, more, waiting, counts)
         }
     }
 }
@@ -79,24 +74,19 @@ fn walk(
 // Walks over the first branch, of one line, from step 0 on. The area is handed back, the same slice:
 // only so may the variable that holds it be lent to the walk.
 fn walk_first<'a>(
-    p: &[u8],
-    used: &[u64; 2],
-    steps: &[u8],
-    s: u16,
+    given: &Given,
     area: &'a mut [u8],
     answer: &mut u32,
-    counts: &mut [u16; 3],
+    counts: &mut Counts,
 ) -> &'a mut [u8]
-    requires walk_lent { WalkLent p.now steps.now s area.old 0 1 }
-    requires set_of { SetOf (uses_name p.now) (names_of used.now) }
-    requires bounded { Bounded 0 (counts_of counts.old) }
-    ensures walks { Walked p.now steps.now s area.old 0 1 0 counts.old answer.new counts.new result.now }
+    requires walk_lent { WalkLent given.now.p.now given.now.steps.now given.now.s area.old 0 1 }
+    requires set_of { SetOf (uses_name given.now.p.now) given.now.used }
+    requires bounded { Bounded 0 counts.old }
+    ensures walks { Walked given.now.p.now given.now.steps.now given.now.s area.old 0 1 0 counts.old answer.new counts.new result.now }
     ensures same { result.ghost_name ≡ area.entry.ghost_name }
 {
-    let pattern = p;
-    let bytes = steps;
     let mut lines = area;
-    *answer = walk(&pattern, used, &bytes, s, &mut lines, 0, 1, 0, counts);
+    *answer = walk(given, &mut lines, 0, 1, 0, counts);
     let back = lines;
     back
 }
@@ -126,10 +116,14 @@ pub fn check_steps(
         node: n - 1,
     });
     store(area, 0, first);
-    let names = used.numbers();
-    let mut counts = [0u16; 3];
+    let mut counts = Counts {
+        clashes: 0,
+        forks: 0,
+        most: 0,
+    };
+    let given = Given { p, used, steps, s };
     let mut answer = 0;
-    walk_first(p, &names, steps, s, area, &mut answer, &mut counts);
+    walk_first(&given, area, &mut answer, &mut counts);
     clear(area);
-    finish(end_of(answer, &counts), s)
+    finish(end_of(answer, counts), s)
 }

@@ -11,39 +11,33 @@ ghost use Rattle.lines.specs.Parts.{positive, is_same, same_name, both_at_end};
 ghost use Rattle.rules.specs.Rules.{rule8, rule16, chains, rule20, alike_sides, opposed_compare, clash_if, rule21, contrary, rule22, rule23};
 
 use lines::line::{CompareLine, Line, compare_line};
-use lines::parts::{
-    both_at_end, is_differ, is_negative, is_positive, is_same, opposed, same_channel,
-    same_comparison, same_name, same_side,
-};
-use lines::views::CompareView;
-use pattern::types::Sign;
-use rules::conclusion::{Conclusion, Outcome};
+use pattern::types::{Comparison, Sign};
+use rules::conclusion::Conclusion;
 use rules::fit::one_if;
 
 // 8. "P a comparison: its two sides exchanged."
-pub fn rule8(l: CompareLine) -> Outcome
+pub fn rule8(l: CompareLine) -> Option<Conclusion>
     ensures { result ≡ rule8 l }
 {
-    Outcome::Fits(Conclusion::One(l.exchanged()))
+    Some(Conclusion::One(l.exchanged()))
 }
 
 // The other of same and differ, held.
 fn other_held(l: CompareLine) -> Line
     ensures { result ≡ compare Sign.Positive (other_of l.comparison) l.channel l.left l.right }
 {
-    let comparison = l.comparison;
-    let channel = l.channel;
-    let left = l.left;
-    let right = l.right;
-    compare_line(Sign::Positive, comparison.other(), channel, left, right)
+    Line::Compare(CompareLine {
+        sign: Sign::Positive,
+        comparison: l.comparison.other(),
+        ..l
+    })
 }
 
 // 16. "Barred, both paths at end: the other of same and differ holds."
-pub fn rule16(l: CompareLine) -> Outcome
+pub fn rule16(l: CompareLine) -> Option<Conclusion>
     ensures { result ≡ rule16 l }
 {
-    let sign = l.sign;
-    let fits = is_negative(sign) & both_at_end(l);
+    let fits = l.sign == Sign::Negative && l.both_at_end();
     one_if(fits, other_held(l))
 }
 
@@ -51,51 +45,40 @@ pub fn rule16(l: CompareLine) -> Outcome
 fn held_same(l: CompareLine) -> bool
     ensures { result ≡ positive l.sign && is_same l.comparison && both_at_end l }
 {
-    let sign = l.sign;
-    let comparison = l.comparison;
-    is_positive(sign) & is_same(comparison) & both_at_end(l)
+    l.sign == Sign::Positive && l.comparison == Comparison::Same && l.both_at_end()
 }
 
 // Whether the right name of P is the left name of Q.
 fn meets(l: CompareLine, q: CompareLine) -> bool
     ensures { result ≡ same_name l.right.name q.left.name }
 {
-    let right = l.right;
-    let left = q.left;
-    let i = right.name;
-    let j = left.name;
-    same_name(i, j)
+    l.right.name == q.left.name
 }
 
 // Whether P and Q chain.
 fn chains(l: CompareLine, q: CompareLine) -> bool
     ensures { result ≡ chains l q }
 {
-    let sign = q.sign;
-    let channel = l.channel;
-    let other = q.channel;
-    held_same(l) & is_positive(sign) & both_at_end(q) & meets(l, q) & same_channel(channel, other)
+    held_same(l)
+        && q.sign == Sign::Positive
+        && q.both_at_end()
+        && meets(l, q)
+        && l.channel == q.channel
 }
 
 // "(i, end) and (k, end) compare as in Q".
 fn chain(l: CompareLine, q: CompareLine) -> Line
     ensures { result ≡ compare Sign.Positive q.comparison l.channel l.left q.right }
 {
-    let comparison = q.comparison;
-    let channel = l.channel;
-    let left = l.left;
-    let right = q.right;
-    compare_line(Sign::Positive, comparison, channel, left, right)
+    compare_line(Sign::Positive, q.comparison, l.channel, l.left, q.right)
 }
 
 // 20. "P: (i, end) same (j, end) holds; Q: (j, end) same or differ (k, end) holds, one channel: (i,
 // end) and (k, end) compare as in Q."
-pub fn rule20(l: CompareLine, q: Line) -> Outcome
+pub fn rule20(l: CompareLine, q: Line) -> Option<Conclusion>
     ensures { result ≡ rule20 l q }
 {
-    let CompareView::Of(m) = q.as_compare() else {
-        return Outcome::Unfit;
-    };
+    let m = q.as_compare()?;
     one_if(chains(l, m), chain(l, m))
 }
 
@@ -103,67 +86,44 @@ pub fn rule20(l: CompareLine, q: Line) -> Outcome
 fn alike_sides(l: CompareLine, q: CompareLine) -> bool
     ensures { result ≡ alike_sides l q }
 {
-    let channel = l.channel;
-    let other = q.channel;
-    let a = l.left;
-    let b = l.right;
-    let c = q.left;
-    let d = q.right;
-    same_channel(channel, other) & same_side(a, c) & same_side(b, d)
+    l.channel == q.channel && l.left == q.left && l.right == q.right
 }
 
 // Whether two comparisons are alike but for sign.
 fn opposes(l: CompareLine, q: CompareLine) -> bool
     ensures { result ≡ opposed_compare l q }
 {
-    let sign = l.sign;
-    let other = q.sign;
-    let c = l.comparison;
-    let d = q.comparison;
-    opposed(sign, other) & same_comparison(c, d) & alike_sides(l, q)
+    l.sign != q.sign && l.comparison == q.comparison && alike_sides(l, q)
 }
 
-// 21. "Clash: P and Q alike but for sign."
+// 21. "Clash: P and Q alike but for sign." A function for each form of P, as `==` of its parts is another.
 pub fn rule21(l: CompareLine, q: Line) -> bool
     ensures { clash_if result ≡ rule21 (Line.Compare l) q }
 {
-    let CompareView::Of(m) = q.as_compare() else {
-        return false;
-    };
-    opposes(l, m)
+    q.as_compare().is_some_and(|m| opposes(l, m))
 }
 
 // Whether P is same and held, Q is differ and held, all else is alike and both paths are at end.
 fn contrary(l: CompareLine, q: CompareLine) -> bool
     ensures { result ≡ contrary l q }
 {
-    let sign = l.sign;
-    let other = q.sign;
-    let c = l.comparison;
-    let d = q.comparison;
-    let held = is_positive(sign) & is_same(c) & is_positive(other) & is_differ(d);
-    held & alike_sides(l, q) & both_at_end(l)
+    let held = held_same(l) && q.sign == Sign::Positive && q.comparison == Comparison::Differ;
+    held && alike_sides(l, q)
 }
 
 // 22. "Clash: P same and Q differ hold, all else alike and both paths at end."
 pub fn rule22(l: CompareLine, q: Line) -> bool
     ensures { clash_if result ≡ rule22 l q }
 {
-    let CompareView::Of(m) = q.as_compare() else {
-        return false;
-    };
-    contrary(l, m)
+    q.as_compare().is_some_and(|m| contrary(l, m))
 }
 
 // 23 of a comparison. "Clash: P is .. (i, end) differ (i, end) holds."
 pub fn rule23(l: CompareLine) -> bool
     ensures { clash_if result ≡ rule23 (Line.Compare l) }
 {
-    let sign = l.sign;
-    let comparison = l.comparison;
-    let left = l.left;
-    let right = l.right;
-    let i = left.name;
-    let j = right.name;
-    is_positive(sign) & is_differ(comparison) & both_at_end(l) & same_name(i, j)
+    l.sign == Sign::Positive
+        && l.comparison == Comparison::Differ
+        && l.both_at_end()
+        && l.left.name == l.right.name
 }

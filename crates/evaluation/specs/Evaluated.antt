@@ -1,6 +1,6 @@
 -- What node evaluation asks and answers at each kind of entry, in every model that the tables stand for.
 -- Assumes nothing.
-use Rattle.std.specs.Prelude.{◌≡◌, Bool, true, ◌↔◌, List, ℕ, ◌+◌, ◌≤◌, ◌<◌}
+use Rattle.std.specs.Prelude.{Option, Some, None, ◌≡◌, Bool, true, ◌↔◌, List, ℕ, ◌+◌, ◌≤◌, ◌<◌}
 use Rattle.std.proofs.Common.{◌∙◌, ap, subst, arith, lt_of_lt_of_le}
 use Rattle.std.proofs.Math.Logic.Iff
 use Rattle.nodeset.specs.declared.NodeSet.{NodeSet}
@@ -27,7 +27,7 @@ use Rattle.evaluation.specs.Entries.{refers_as, within_as}
 use Rattle.evaluation.specs.Nodes.{ComparesIn, channel_rows, pair_compares_in, ends_inside, nodes_property, nodes_name, nodes_not, nodes_both, nodes_either, nodes_after, nodes_compare}
 
 -- node entry k, read as e, of this kind
-pub record NodeEntry (bs table alike : List ℕ) (n k : ℕ) (e : Entry) (kind : NodeKind) : Type 0 where
+pub record NodeEntry (bs table alike : List ℕ) (n k : ℕ) (e : Entry) (kind : Option NodeKind) : Type 0 where
   pub lent : Lent bs table alike n
   pub within : k < count_of bs
   pub node : sort_at bs k ≡ Sort.Node
@@ -46,68 +46,68 @@ lent_valid {bs} lent = valid bs (count_of bs) lent.read
 pub entry_long : {bs table alike : List ℕ} {n : ℕ} → Lent bs table alike n → (k : ℕ) → k < count_of bs → HasEntry bs k
 entry_long lent k l = omega (arith, l, (lent_valid lent).header.length_is)
 
-module _ {bs table alike : List ℕ} {n k : ℕ} {e : Entry} {kind : NodeKind} (q : NodeEntry bs table alike n k e kind) where
-  kind_is : (t : NodeKind) → kind ≡ t → IsNodeKind t (entry_at bs k).kind
+module _ {bs table alike : List ℕ} {n k : ℕ} {e : Entry} {kind : Option NodeKind} (q : NodeEntry bs table alike n k e kind) where
+  kind_is : (t : Option NodeKind) → kind ≡ t → IsNodeKind t (entry_at bs k).kind
   kind_is t is =
-      subst (λ (t' : NodeKind). IsNodeKind t' (entry_at bs k).kind) is
+      subst (λ (t' : Option NodeKind). IsNodeKind t' (entry_at bs k).kind) is
       (node_kind_is (entry_at bs k).kind kind (q.by ∙ ap (λ (e' : Entry). node_kind_of e'.kind) q.same))
 
   ok : Valid bs (count_of bs)
   ok = lent_valid q.lent
 
-  pub property_within : kind ≡ NodeKind.Property → e.x ≤ max_property
-  property_within is = rw q.same (within_as ok k q.within Kind.Property (kind_is NodeKind.Property is)).0
+  pub property_within : kind ≡ Some NodeKind.Property → e.x ≤ max_property
+  property_within is = rw q.same (within_as ok k q.within Kind.Property (kind_is (Some NodeKind.Property) is)).0
 
-  pub name_within : kind ≡ NodeKind.Name → e.x ≤ max_name
-  name_within is = rw q.same (within_as ok k q.within Kind.Name (kind_is NodeKind.Name is)).0
+  pub name_within : kind ≡ Some NodeKind.Name → e.x ≤ max_name
+  name_within is = rw q.same (within_as ok k q.within Kind.Name (kind_is (Some NodeKind.Name) is)).0
 
-  pub axis_within : kind ≡ NodeKind.After → e.x ≤ max_axis
-  axis_within is = rw q.same (within_as ok k q.within Kind.After (kind_is NodeKind.After is)).0
+  pub axis_within : kind ≡ Some NodeKind.After → e.x ≤ max_axis
+  axis_within is = rw q.same (within_as ok k q.within Kind.After (kind_is (Some NodeKind.After) is)).0
 
-  pub not_refers : kind ≡ NodeKind.Not → EarlierNode bs k e.x
-  not_refers is = rw q.same (refers_as ok k q.within Kind.Not (kind_is NodeKind.Not is)).0
+  pub not_refers : kind ≡ Some NodeKind.Not → EarlierNode bs k e.x
+  not_refers is = rw q.same (refers_as ok k q.within Kind.Not (kind_is (Some NodeKind.Not) is)).0
 
-  pub both_refers : kind ≡ NodeKind.Both → EarlierNode bs k e.x × EarlierNode bs k e.y
-  both_refers is = let r = refers_as ok k q.within Kind.Both (kind_is NodeKind.Both is) in rw q.same (r.0, r.1)
+  pub both_refers : kind ≡ Some NodeKind.Both → EarlierNode bs k e.x × EarlierNode bs k e.y
+  both_refers is = let r = refers_as ok k q.within Kind.Both (kind_is (Some NodeKind.Both) is) in rw q.same (r.0, r.1)
 
-  pub either_refers : kind ≡ NodeKind.Either → EarlierNode bs k e.x × EarlierNode bs k e.y
-  either_refers is = let r = refers_as ok k q.within Kind.Either (kind_is NodeKind.Either is) in rw q.same (r.0, r.1)
+  pub either_refers : kind ≡ Some NodeKind.Either → EarlierNode bs k e.x × EarlierNode bs k e.y
+  either_refers is = let r = refers_as ok k q.within Kind.Either (kind_is (Some NodeKind.Either) is) in rw q.same (r.0, r.1)
 
-  pub after_refers : kind ≡ NodeKind.After → EarlierNode bs k e.y
-  after_refers is = rw q.same (refers_as ok k q.within Kind.After (kind_is NodeKind.After is)).1
+  pub after_refers : kind ≡ Some NodeKind.After → EarlierNode bs k e.y
+  after_refers is = rw q.same (refers_as ok k q.within Kind.After (kind_is (Some NodeKind.After) is)).1
 
-  pub compares : (c : Comparison) → kind ≡ NodeKind.Compare c → (entry_at bs k).kind ≡ comparison_kind c
-  compares c is = kind_is (NodeKind.Compare c) is
+  pub compares : (c : Comparison) → kind ≡ Some (NodeKind.Compare c) → (entry_at bs k).kind ≡ comparison_kind c
+  compares c is = kind_is (Some (NodeKind.Compare c)) is
 
-  pub evaluates_property : kind ≡ NodeKind.Property → Evaluates bs table alike n k (set_at table (property_row e.x))
+  pub evaluates_property : kind ≡ Some NodeKind.Property → Evaluates bs table alike n k (set_at table (property_row e.x))
   evaluates_property is =
-      rw q.same (λ w. nodes_property w.model w.named ok k q.within table w.tabled (kind_is NodeKind.Property is))
+      rw q.same (λ w. nodes_property w.model w.named ok k q.within table w.tabled (kind_is (Some NodeKind.Property) is))
 
-  pub evaluates_name : kind ≡ NodeKind.Name → Evaluates bs table alike n k (set_at table (name_row e.x))
-  evaluates_name is = rw q.same (λ w. nodes_name w.model w.named ok k q.within table w.tabled (kind_is NodeKind.Name is))
+  pub evaluates_name : kind ≡ Some NodeKind.Name → Evaluates bs table alike n k (set_at table (name_row e.x))
+  evaluates_name is = rw q.same (λ w. nodes_name w.model w.named ok k q.within table w.tabled (kind_is (Some NodeKind.Name) is))
 
-  pub evaluates_not : (s : NodeSet) → kind ≡ NodeKind.Not → Evaluates bs table alike n e.x s
+  pub evaluates_not : (s : NodeSet) → kind ≡ Some NodeKind.Not → Evaluates bs table alike n e.x s
       → Evaluates bs table alike n k (minus (set_at table nodes_row) s)
   evaluates_not s is h w =
-      nodes_not w.model w.named ok k q.within table w.tabled s (kind_is NodeKind.Not is) ((rw q.same at h) w)
+      nodes_not w.model w.named ok k q.within table w.tabled s (kind_is (Some NodeKind.Not) is) ((rw q.same at h) w)
 
-  pub evaluates_both : (s t : NodeSet) → kind ≡ NodeKind.Both → Evaluates bs table alike n e.x s
+  pub evaluates_both : (s t : NodeSet) → kind ≡ Some NodeKind.Both → Evaluates bs table alike n e.x s
       → Evaluates bs table alike n e.y t → Evaluates bs table alike n k (meet s t)
   evaluates_both s t is h g w =
-      nodes_both w.model w.named ok k q.within table w.tabled s t (kind_is NodeKind.Both is) ((rw q.same at h) w) ((rw q.same at g) w)
+      nodes_both w.model w.named ok k q.within table w.tabled s t (kind_is (Some NodeKind.Both) is) ((rw q.same at h) w) ((rw q.same at g) w)
 
-  pub evaluates_either : (s t : NodeSet) → kind ≡ NodeKind.Either → Evaluates bs table alike n e.x s
+  pub evaluates_either : (s t : NodeSet) → kind ≡ Some NodeKind.Either → Evaluates bs table alike n e.x s
       → Evaluates bs table alike n e.y t → Evaluates bs table alike n k (union s t)
   evaluates_either s t is h g w =
-      nodes_either w.model w.named ok k q.within table w.tabled s t (kind_is NodeKind.Either is) ((rw q.same at h) w) ((rw q.same at g) w)
+      nodes_either w.model w.named ok k q.within table w.tabled s t (kind_is (Some NodeKind.Either) is) ((rw q.same at h) w) ((rw q.same at g) w)
 
-  pub evaluates_after : (s r : NodeSet) → kind ≡ NodeKind.After → Evaluates bs table alike n e.y s
+  pub evaluates_after : (s r : NodeSet) → kind ≡ Some NodeKind.After → Evaluates bs table alike n e.y s
       → HasExactly (Before table n e.x s) r → Evaluates bs table alike n k r
   evaluates_after s r is h before w =
-      nodes_after w.model w.named ok k q.within table w.tabled s r (kind_is NodeKind.After is) ((rw q.same at h) w) (rw w.size_is (rw q.same at before))
+      nodes_after w.model w.named ok k q.within table w.tabled s r (kind_is (Some NodeKind.After) is) ((rw q.same at h) w) (rw w.size_is (rw q.same at before))
 
-  pub evaluates_none : (s : NodeSet) → kind ≡ NodeKind.NoNode → Evaluates bs table alike n k s
-  evaluates_none s is w = absurd (kind_is NodeKind.NoNode is q.node)
+  pub evaluates_none : (s : NodeSet) → kind ≡ None → Evaluates bs table alike n k s
+  evaluates_none s is w = absurd (kind_is None is q.node)
 
 -- a comparison
 module _ {bs table alike : List ℕ} {n : ℕ} (lent : Lent bs table alike n) (k : ℕ) (l : k < count_of bs) (c : Comparison)
@@ -132,7 +132,7 @@ module _ {bs table alike : List ℕ} {n : ℕ} (lent : Lent bs table alike n) (k
       let α' : Ends bs table alike n (entry_at bs k).y u s = rw same at α in
       let pair' : PairFound alike (entry_at bs k).x c s t b = rw same at pair in
       collected_next (ComparesIn w k c) u found b (lt_of_lt_of_le m lent.narrow)
-      (Iff.trans (pair' w.model (channel_rows (lent_valid lent) k l c kind w) (ends_inside w (entry_at bs k).y u m s α'))
+      (Iff.trans (pair'.found w.model (channel_rows (lent_valid lent) k l c kind w) (ends_inside w (entry_at bs k).y u m s α'))
       (pair_compares_in (lent_valid lent) k l c kind w u m s t α' (rw same at β)))
       (so_far w)
 

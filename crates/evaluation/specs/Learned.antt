@@ -17,7 +17,8 @@ use Rattle.relations.specs.Filled.{exactly_put}
 use Rattle.relations.specs.Covered.{RowsFit}
 use Rattle.evaluation.specs.Standing.{Leading, Lent, Standing, Evaluates, Ends, RootNodes}
 use Rattle.slots.specs.Area.{place_of, area_bytes, set_room, places_differ}
-use Rattle.slots.specs.Marks.{mark_of, tag_at, tag_of, tag_for, is_known, is_held, first_row, PathOf, IsFree, MayHold, slots_apart}
+use Rattle.slots.specs.declared.marks.Marks.{Marks}
+use Rattle.slots.specs.Marks.{mark_of, tag_of, tag_for, unmarked, marked, tagged, is_known, is_held, first_row, PathOf, IsFree, MayHold, slots_apart}
 use Rattle.evaluation.specs.Entries.{end_leads}
 use Rattle.evaluation.specs.Evaluated.{lent_valid}
 
@@ -32,10 +33,11 @@ pub record Rowed (bs table alike : List ℕ) (n : ℕ) (rows : List ℕ) (path s
   pub ends : (u : ℕ) → u < n → Ends bs table alike n path u (set_at rows (first_row n slot + u))
 
 -- what the marks say is so; slot 0 is that of the end of path
-pub record Learned (bs table alike : List ℕ) (n : ℕ) (area rows marks : List ℕ) : Type 0 where
+pub record Learned (bs table alike : List ℕ) (n : ℕ) (area rows : List ℕ) (marks : Marks) : Type 0 where
   pub area_long : area_bytes bs ≤ length area
   pub sets : (k : ℕ) → k < count_of bs → sort_at bs k ≡ Sort.Node → is_known marks k ≡ true → Stored bs table alike n area k (mark_of marks k)
-  pub marks_long : tag_at (end_of_path + 1) ≤ length marks
+  pub marks_long : end_of_path < length marks.marks
+  pub tags_long : end_of_path < length marks.tags
   pub end_slot : mark_of marks end_of_path ≡ 0
   pub held : (path : ℕ) → PathOf bs path → is_held marks path ≡ true → Rowed bs table alike n rows path (mark_of marks path)
 
@@ -75,12 +77,13 @@ module _ {bs table alike : List ℕ} {n : ℕ} (lent : Lent bs table alike n) wh
       }
 
   -- nothing is learned at first but the ends of the end of path, in slot 0
-  pub learned_first : (area rows : List ℕ) (m : ℕ) → tag_at (end_of_path + 1) ≤ m → area_bytes bs ≤ length area → RowsFit rows n 0
-      → ((u : ℕ) → u < n → (v : ℕ) → (has (set_at rows u) v ≡ true) ↔ (v ≡ u)) → Learned bs table alike n area rows (replicate m 0)
+  pub learned_first : (area rows : List ℕ) (m : ℕ) → end_of_path < m → area_bytes bs ≤ length area → RowsFit rows n 0
+      → ((u : ℕ) → u < n → (v : ℕ) → (has (set_at rows u) v ≡ true) ↔ (v ≡ u)) → Learned bs table alike n area rows (unmarked m)
   learned_first area rows m long area_long fits selves =
       record {
         area_long = area_long;
         marks_long = rw (length-replicate {A = ℕ} m 0) long;
+        tags_long = rw (length-replicate {A = ℕ} m 0) long;
         sets = λ k l node known. absurd (not_first k l known);
         end_slot = zero end_of_path (omega (arith, long));
         held = λ path is_path_law h. subst (Rowed bs table alike n rows path) (sym (zero path (omega (arith, path_small path is_path_law, long)))) (end path is_path_law h);
@@ -89,7 +92,7 @@ module _ {bs table alike : List ℕ} {n : ℕ} (lent : Lent bs table alike n) wh
       zero : (i : ℕ) → i < m → ◌≡◌ {A = ℕ} (get_or (replicate m 0) i 0) 0
       zero i l = get_or-replicate m i 0 0 l
 
-      not_first : (k : ℕ) → k < count_of bs → is_known (replicate m 0) k ≡ true → ⊥
+      not_first : (k : ℕ) → k < count_of bs → is_known (unmarked m) k ≡ true → ⊥
       not_first k l known = false≢true (sym (ap not (eq-eqb _ _ (zero k (omega (arith, l, (lent_valid lent).header.one_byte, long))))) ∙ known)
 
       from_self : (w : Standing bs table alike n) (u : ℕ) (l : u < w.model.size) (v : ℕ)
@@ -110,16 +113,16 @@ module _ {bs table alike : List ℕ} {n : ℕ} (lent : Lent bs table alike n) wh
             ends = λ u b w l v. subst (λ (i : ℕ). (has (set_at rows i) v ≡ true) ↔ ((k : v < w.model.size) × Leading w.model w.named bs end_of_path (u, l) (v, k))) (sym (ap (λ (i : ℕ). i + u) (mul-zero n) ∙ zero-add u)) (from_self w u l v);
           }
 
-      end : (path : ℕ) → PathOf bs path → is_held (replicate m 0) path ≡ true → Rowed bs table alike n rows path 0
+      end : (path : ℕ) → PathOf bs path → is_held (unmarked m) path ≡ true → Rowed bs table alike n rows path 0
       end path is_path_law h =
           let small = path_small path is_path_law in
           let first = zero path (omega (arith, small, long)) in
-          let tag : tag_of (replicate m 0) (mark_of (replicate m 0) path) ≡ tag_for path = eqb-true _ _ h in
-          let none : tag_of (replicate m 0) (mark_of (replicate m 0) path) ≡ 0 = zero _ (omega (arith, first, long)) in
+          let tag : tag_of (unmarked m) (mark_of (unmarked m) path) ≡ tag_for path = eqb-true _ _ h in
+          let none : tag_of (unmarked m) (mark_of (unmarked m) path) ≡ 0 = zero _ (omega (arith, first, long)) in
           let same : end_of_path ≡ path = omega (arith, tag, none, small) in
           subst (λ (p : ℕ). Rowed bs table alike n rows p 0) same in_first
 
-  module _ {area rows marks : List ℕ} (known : Learned bs table alike n area rows marks) where
+  module _ {area rows : List ℕ} {marks : Marks} (known : Learned bs table alike n area rows marks) where
     -- a node entry whose mark stays has its set as before
     stored_kept : {mark : ℕ} (k : ℕ) → k < count_of bs → sort_at bs k ≡ Sort.Node → mark ≡ mark_of marks k → not (eqb mark 0) ≡ true
         → Stored bs table alike n area k mark
@@ -128,48 +131,47 @@ module _ {bs table alike : List ℕ} {n : ℕ} (lent : Lent bs table alike n) wh
 
     -- ---- a slot that is taken from its path
     module _ (slot : ℕ) (may : MayHold slot) where
-      taken_mark : (i : ℕ) → i ≤ end_of_path → mark_of (set marks (tag_at slot) 0) i ≡ mark_of marks i
-      taken_mark i l = get_or-set_other marks (tag_at slot) i 0 0 (λ e. omega (arith, e, l))
+      taken_mark : (i : ℕ) → mark_of (tagged marks slot end_of_path) i ≡ mark_of marks i
+      taken_mark i = refl
 
       -- whoever is held then was held before, in another slot
-      held_before : (path : ℕ) → PathOf bs path → is_held (set marks (tag_at slot) 0) path ≡ true
+      held_before : (path : ℕ) → PathOf bs path → is_held (tagged marks slot end_of_path) path ≡ true
           → (is_held marks path ≡ true) × (mark_of marks path ≡ slot → ⊥)
       held_before path is_path_law h = go (eqb (mark_of marks path) slot) refl
         where
           small : path ≤ end_of_path
           small = path_small path is_path_law
 
-          tag : tag_of (set marks (tag_at slot) 0) (mark_of marks path) ≡ tag_for path
-          tag = subst (λ (s : ℕ). tag_of (set marks (tag_at slot) 0) s ≡ tag_for path) (taken_mark path small) (eqb-true _ _ h)
+          tag : tag_of (tagged marks slot end_of_path) (mark_of marks path) ≡ tag_for path
+          tag = eqb-true _ _ h
 
           go : (b : Bool) → eqb (mark_of marks path) slot ≡ b → (is_held marks path ≡ true) × (mark_of marks path ≡ slot → ⊥)
           go true e =
               let here = eqb-true (mark_of marks path) slot e in
-              let none : tag_of (set marks (tag_at slot) 0) (mark_of marks path) ≡ 0 =
-              rw here (get_or-set_same marks (tag_at slot) 0 0 (omega (arith, may.1, known.marks_long))) in
+              let none : tag_of (tagged marks slot end_of_path) (mark_of marks path) ≡ 0 =
+              rw here (get_or-set_same marks.tags slot 0 0 (omega (arith, may.1, known.tags_long))) in
               let end : path ≡ end_of_path = omega (arith, tag, none, small) in
               let zero : mark_of marks path ≡ 0 = ap (mark_of marks) end ∙ known.end_slot in
               absurd (omega (arith, here, zero, may.0))
           go false e =
               let other = eqb-false (mark_of marks path) slot e in
-              let same : tag_of (set marks (tag_at slot) 0) (mark_of marks path) ≡ tag_of marks (mark_of marks path) =
-              get_or-set_other marks (tag_at slot) (tag_at (mark_of marks path)) 0 0 (λ q. other (omega (arith, q))) in
+              let same : tag_of (tagged marks slot end_of_path) (mark_of marks path) ≡ tag_of marks (mark_of marks path) =
+              get_or-set_other marks.tags slot (mark_of marks path) 0 0 (λ q. other (omega (arith, q))) in
               (eq-eqb _ _ (sym same ∙ tag), other)
 
-      pub learned_taken : Learned bs table alike n area rows (set marks (tag_at slot) 0)
+      pub learned_taken : Learned bs table alike n area rows (tagged marks slot end_of_path)
       learned_taken =
           record {
             area_long = known.area_long;
-            marks_long = rw (length-set marks (tag_at slot) 0) known.marks_long;
-            sets = λ k l node is_marked. let same = taken_mark k (omega (arith, l, (lent_valid lent).header.one_byte)) in stored_kept k l node same is_marked;
-            end_slot = taken_mark end_of_path (omega arith) ∙ known.end_slot;
-            held = λ path is_path_law h.
-                subst (Rowed bs table alike n rows path) (sym (taken_mark path (path_small path is_path_law)))
-                (known.held path is_path_law (held_before path is_path_law h).0);
+            marks_long = known.marks_long;
+            tags_long = rw (length-set marks.tags slot 0) known.tags_long;
+            sets = known.sets;
+            end_slot = known.end_slot;
+            held = λ path is_path_law h. known.held path is_path_law (held_before path is_path_law h).0;
           }
 
-      pub taken_free : IsFree bs (set marks (tag_at slot) 0) slot
-      taken_free path is_path_law h e = (held_before path is_path_law h).1 (sym (taken_mark path (path_small path is_path_law)) ∙ e)
+      pub taken_free : IsFree bs (tagged marks slot end_of_path) slot
+      taken_free path is_path_law h e = (held_before path is_path_law h).1 e
 
     -- ---- other rows in a slot that no path has
     learned_rows : (slot : ℕ) → IsFree bs marks slot → (rows' : List ℕ) → length rows' ≡ length rows
@@ -178,6 +180,7 @@ module _ {bs table alike : List ℕ} {n : ℕ} (lent : Lent bs table alike n) wh
         record {
           area_long = known.area_long;
           marks_long = known.marks_long;
+          tags_long = known.tags_long;
           sets = known.sets;
           end_slot = known.end_slot;
           held = λ path is_path_law h.
@@ -188,14 +191,15 @@ module _ {bs table alike : List ℕ} {n : ℕ} (lent : Lent bs table alike n) wh
 
     -- ---- a path whose rows are in a slot that no path has
     learned_path : (k slot : ℕ) → k < count_of bs → sort_at bs k ≡ Sort.Path → MayHold slot → IsFree bs marks slot
-        → Rowed bs table alike n rows k slot → Learned bs table alike n area rows (set (set marks k slot) (tag_at slot) (tag_for k))
+        → Rowed bs table alike n rows k slot → Learned bs table alike n area rows (tagged (marked marks k slot) slot k)
     learned_path k slot l is_path_k may free rowed =
         record {
           area_long = known.area_long;
-          marks_long = rw (length-set (set marks k slot) (tag_at slot) (tag_for k), length-set marks k slot) known.marks_long;
+          marks_long = rw (length-set marks.marks k slot) known.marks_long;
+          tags_long = rw (length-set marks.tags slot (tag_for k)) known.tags_long;
           sets = λ j m node is_marked.
-              stored_kept j m node (mark_other j (omega (arith, m, few)) (λ e. path_no_node (sym (subst (λ (i : ℕ). sort_at bs i ≡ Sort.Path) (sym e) is_path_k) ∙ node))) is_marked;
-          end_slot = mark_other end_of_path (omega arith) (λ e. omega (arith, e, l, few)) ∙ known.end_slot;
+              stored_kept j m node (mark_other j (λ e. path_no_node (sym (subst (λ (i : ℕ). sort_at bs i ≡ Sort.Path) (sym e) is_path_k) ∙ node))) is_marked;
+          end_slot = mark_other end_of_path (λ e. omega (arith, e, l, few)) ∙ known.end_slot;
           held = λ path is_path_law h. which path is_path_law h (eqb path k) refl;
         }
       where
@@ -203,24 +207,19 @@ module _ {bs table alike : List ℕ} {n : ℕ} (lent : Lent bs table alike n) wh
         few = (lent_valid lent).header.one_byte
 
         -- the marks are as they were but for that of k, which is the slot
-        low : (i : ℕ) → i ≤ end_of_path → mark_of (set (set marks k slot) (tag_at slot) (tag_for k)) i ≡ mark_of (set marks k slot) i
-        low i m = get_or-set_other (set marks k slot) (tag_at slot) i (tag_for k) 0 (λ e. omega (arith, e, m))
+        mark_other : (i : ℕ) → (i ≡ k → ⊥) → mark_of (tagged (marked marks k slot) slot k) i ≡ mark_of marks i
+        mark_other i differ = get_or-set_other marks.marks k i slot 0 differ
 
-        mark_other : (i : ℕ) → i ≤ end_of_path → (i ≡ k → ⊥) → mark_of (set (set marks k slot) (tag_at slot) (tag_for k)) i ≡ mark_of marks i
-        mark_other i m differ = low i m ∙ get_or-set_other marks k i slot 0 differ
+        mark_own : mark_of (tagged (marked marks k slot) slot k) k ≡ slot
+        mark_own = get_or-set_same marks.marks k slot 0 (omega (arith, l, few, known.marks_long))
 
-        mark_own : mark_of (set (set marks k slot) (tag_at slot) (tag_for k)) k ≡ slot
-        mark_own = low k (omega (arith, l, few)) ∙ get_or-set_same marks k slot 0 (omega (arith, l, few, known.marks_long))
+        tag_own : tag_of (tagged (marked marks k slot) slot k) slot ≡ tag_for k
+        tag_own = get_or-set_same marks.tags slot (tag_for k) 0 (omega (arith, may.1, known.tags_long))
 
-        tag_own : tag_of (set (set marks k slot) (tag_at slot) (tag_for k)) slot ≡ tag_for k
-        tag_own =
-            get_or-set_same (set marks k slot) (tag_at slot) (tag_for k) 0
-            (rw (length-set marks k slot) (omega (arith, may.1, known.marks_long)))
-
-        which : (path : ℕ) → PathOf bs path → is_held (set (set marks k slot) (tag_at slot) (tag_for k)) path ≡ true → (b : Bool) → eqb path k ≡ b
-            → Rowed bs table alike n rows path (mark_of (set (set marks k slot) (tag_at slot) (tag_for k)) path)
+        which : (path : ℕ) → PathOf bs path → is_held (tagged (marked marks k slot) slot k) path ≡ true → (b : Bool) → eqb path k ≡ b
+            → Rowed bs table alike n rows path (mark_of (tagged (marked marks k slot) slot k) path)
         which path is_path_law h true e =
-            subst (λ (p : ℕ). Rowed bs table alike n rows p (mark_of (set (set marks k slot) (tag_at slot) (tag_for k)) p)) (sym (eqb-true path k e))
+            subst (λ (p : ℕ). Rowed bs table alike n rows p (mark_of (tagged (marked marks k slot) slot k) p)) (sym (eqb-true path k e))
             (subst (Rowed bs table alike n rows k) (sym mark_own) rowed)
         which path is_path_law h false e =
             subst (Rowed bs table alike n rows path) (sym mark)
@@ -229,32 +228,32 @@ module _ {bs table alike : List ℕ} {n : ℕ} (lent : Lent bs table alike n) wh
             small : path ≤ end_of_path
             small = path_small path is_path_law
 
-            mark : mark_of (set (set marks k slot) (tag_at slot) (tag_for k)) path ≡ mark_of marks path
-            mark = mark_other path small (eqb-false path k e)
+            mark : mark_of (tagged (marked marks k slot) slot k) path ≡ mark_of marks path
+            mark = mark_other path (eqb-false path k e)
 
-            tag : tag_of (set (set marks k slot) (tag_at slot) (tag_for k)) (mark_of marks path) ≡ tag_for path
-            tag = subst (λ (s : ℕ). tag_of (set (set marks k slot) (tag_at slot) (tag_for k)) s ≡ tag_for path) mark (eqb-true _ _ h)
+            tag : tag_of (tagged (marked marks k slot) slot k) (mark_of marks path) ≡ tag_for path
+            tag = subst (λ (s : ℕ). tag_of (tagged (marked marks k slot) slot k) s ≡ tag_for path) mark (eqb-true _ _ h)
 
             go : (b : Bool) → eqb (mark_of marks path) slot ≡ b → is_held marks path ≡ true
             go true q =
                 let here = eqb-true (mark_of marks path) slot q in
                 let both : tag_for k ≡ tag_for path =
-                sym tag_own ∙ subst (λ (s : ℕ). tag_of (set (set marks k slot) (tag_at slot) (tag_for k)) s ≡ tag_for path) here tag in
+                sym tag_own ∙ subst (λ (s : ℕ). tag_of (tagged (marked marks k slot) slot k) s ≡ tag_for path) here tag in
                 absurd (eqb-false path k e (omega (arith, both, small, l, few)))
             go false q =
                 let other = eqb-false (mark_of marks path) slot q in
-                let same : tag_of (set (set marks k slot) (tag_at slot) (tag_for k)) (mark_of marks path) ≡ tag_of marks (mark_of marks path) =
-                get_or-set_other (set marks k slot) (tag_at slot) (tag_at (mark_of marks path)) (tag_for k) 0 (λ z. other (omega (arith, z)))
-                ∙ get_or-set_other marks k (tag_at (mark_of marks path)) slot 0 (λ z. omega (arith, z, l, few)) in
+                let same : tag_of (tagged (marked marks k slot) slot k) (mark_of marks path) ≡ tag_of marks (mark_of marks path) =
+                get_or-set_other marks.tags slot (mark_of marks path) (tag_for k) 0 (λ z. other (omega (arith, z))) in
                 eq-eqb _ _ (sym same ∙ tag)
 
     -- ---- a node entry whose set is in the area
     pub learned_node : (k : ℕ) (s : NodeSet) → k < count_of bs → sort_at bs k ≡ Sort.Node → Evaluates bs table alike n k s
-        → Learned bs table alike n (put area (place_of bs k) s) rows (set marks k (place_of bs k + 1))
+        → Learned bs table alike n (put area (place_of bs k) s) rows (marked marks k (place_of bs k + 1))
     learned_node k s l node set_of_k =
         record {
           area_long = rw (length_put area (place_of bs k) s) known.area_long;
-          marks_long = rw (length-set marks k (place_of bs k + 1)) known.marks_long;
+          marks_long = rw (length-set marks.marks k (place_of bs k + 1)) known.marks_long;
+          tags_long = known.tags_long;
           sets = λ j m is_node_law is_marked. which j m is_node_law is_marked (eqb j k) refl;
           end_slot = mark_other end_of_path (λ e. omega (arith, e, l, (lent_valid lent).header.one_byte)) ∙ known.end_slot;
           held = λ path is_path_law h.
@@ -262,33 +261,29 @@ module _ {bs table alike : List ℕ} {n : ℕ} (lent : Lent bs table alike n) wh
               (known.held path is_path_law (still path is_path_law h));
         }
       where
-        marked : List ℕ
-        marked = set marks k (place_of bs k + 1)
+        after : Marks
+        after = marked marks k (place_of bs k + 1)
 
-        mark_other : (i : ℕ) → (i ≡ k → ⊥) → mark_of marked i ≡ mark_of marks i
-        mark_other i differ = get_or-set_other marks k i (place_of bs k + 1) 0 differ
+        mark_other : (i : ℕ) → (i ≡ k → ⊥) → mark_of after i ≡ mark_of marks i
+        mark_other i differ = get_or-set_other marks.marks k i (place_of bs k + 1) 0 differ
 
-        tag_other : (slot : ℕ) → tag_of marked slot ≡ tag_of marks slot
-        tag_other slot = get_or-set_other marks k (tag_at slot) (place_of bs k + 1) 0 (λ e. omega (arith, e, l, (lent_valid lent).header.one_byte))
-
-        still : (path : ℕ) → PathOf bs path → is_held marked path ≡ true → is_held marks path ≡ true
+        still : (path : ℕ) → PathOf bs path → is_held after path ≡ true → is_held marks path ≡ true
         still path is_path_law h =
-            let tag : tag_of marked (mark_of marked path) ≡ tag_for path = eqb-true _ _ h in
+            let tag : tag_of after (mark_of after path) ≡ tag_for path = eqb-true _ _ h in
             eq-eqb _ _
-            (sym (tag_other (mark_of marks path))
-            ∙ subst (λ (x : ℕ). tag_of marked x ≡ tag_for path) (mark_other path (path_not_node path k l is_path_law node)) tag)
+            (subst (λ (x : ℕ). tag_of after x ≡ tag_for path) (mark_other path (path_not_node path k l is_path_law node)) tag)
 
-        own : Stored bs table alike n (put area (place_of bs k) s) k (mark_of marked k)
+        own : Stored bs table alike n (put area (place_of bs k) s) k (mark_of after k)
         own =
             record {
-              place_is = get_or-set_same marks k (place_of bs k + 1) 0 (omega (arith, l, (lent_valid lent).header.one_byte, known.marks_long));
+              place_is = get_or-set_same marks.marks k (place_of bs k + 1) 0 (omega (arith, l, (lent_valid lent).header.one_byte, known.marks_long));
               set_is = λ w. exactly_put _ area (place_of bs k) s (set_room bs area known.area_long k l node) (set_of_k w);
             }
 
-        which : (j : ℕ) → j < count_of bs → sort_at bs j ≡ Sort.Node → is_known marked j ≡ true → (b : Bool) → eqb j k ≡ b
-            → Stored bs table alike n (put area (place_of bs k) s) j (mark_of marked j)
+        which : (j : ℕ) → j < count_of bs → sort_at bs j ≡ Sort.Node → is_known after j ≡ true → (b : Bool) → eqb j k ≡ b
+            → Stored bs table alike n (put area (place_of bs k) s) j (mark_of after j)
         which j m is_node_law is_marked true e =
-            subst (λ (i : ℕ). Stored bs table alike n (put area (place_of bs k) s) i (mark_of marked i)) (sym (eqb-true j k e)) own
+            subst (λ (i : ℕ). Stored bs table alike n (put area (place_of bs k) s) i (mark_of after i)) (sym (eqb-true j k e)) own
         which j m is_node_law is_marked false e =
             let other = eqb-false j k e in
             let before = stored_kept j m is_node_law (mark_other j other) is_marked in
@@ -298,13 +293,13 @@ module _ {bs table alike : List ℕ} {n : ℕ} (lent : Lent bs table alike n) wh
             }
 
   -- ---- a slot that is taken from its path and has other rows, which may be those of path k
-  module _ {area rows marks : List ℕ} (known : Learned bs table alike n area rows marks) (slot : ℕ) (may : MayHold slot) (rows' : List ℕ)
+  module _ {area rows : List ℕ} {marks : Marks} (known : Learned bs table alike n area rows marks) (slot : ℕ) (may : MayHold slot) (rows' : List ℕ)
       (long : length rows' ≡ length rows) (rest : (i : ℕ) → ((u : ℕ) → u < n → i ≡ first_row n slot + u → ⊥) → set_at rows' i ≡ set_at rows i) where
-    pub learned_lost : Learned bs table alike n area rows' (set marks (tag_at slot) 0)
+    pub learned_lost : Learned bs table alike n area rows' (tagged marks slot end_of_path)
     learned_lost = learned_rows (learned_taken known slot may) slot (taken_free known slot may) rows' long rest
 
     pub learned_filled : (k : ℕ) → k < count_of bs → sort_at bs k ≡ Sort.Path → RowsFit rows n (first_row n slot)
         → ((u : ℕ) → u < n → Ends bs table alike n k u (set_at rows' (first_row n slot + u)))
-        → Learned bs table alike n area rows' (set (set (set marks (tag_at slot) 0) k slot) (tag_at slot) (tag_for k))
+        → Learned bs table alike n area rows' (tagged (marked (tagged marks slot end_of_path) k slot) slot k)
     learned_filled k l path fits ends =
         learned_path learned_lost k slot l path may (taken_free known slot may) (record { fits = rw long fits; ends = ends })

@@ -6,3 +6,4 @@ pub mod Nodes
 pub mod Evaluated
 pub mod SweepEntry
 pub mod Learned
+pub mod Judged

@@ -32,14 +32,14 @@ pub record Standing (bs table alike : List ℕ) (n : ℕ) : Type 0 where
   pub tabled : Tabled model bs table
   pub alike_is : Alike model bs alike
 
--- a pattern that was read, and tables that are long enough and stand for some model of n nodes
+-- a pattern that was read, and tables that are long enough and stand for some model of n nodes: that there is one, not which
 pub record Lent (bs table alike : List ℕ) (n : ℕ) : Type 0 where
   pub read : reading_of bs ≡ found (count_of bs)
   pub table_long : table_bytes model_rows ≤ length table
   pub alike_long : table_bytes alike_rows ≤ length alike
   pub some_node : 0 < n
   pub narrow : n ≤ width
-  pub stands : Standing bs table alike n
+  pub stands : ∥ Standing bs table alike n ∥₁
 
 -- the set of the nodes at which entry k holds, in each such model
 abbrev pub Evaluates : (bs table alike : List ℕ) → ℕ → ℕ → NodeSet → Type 0

@@ -1,6 +1,6 @@
 -- What one entry of a sweep asks and does, in every model that the tables stand for.
 -- Assumes nothing.
-use Rattle.std.specs.Prelude.{◌≡◌, true, false, List, ℕ, ◌+◌, ◌-◌, ◌≤◌, ◌<◌, length}
+use Rattle.std.specs.Prelude.{Option, Some, None, ◌≡◌, true, false, List, ℕ, ◌+◌, ◌-◌, ◌≤◌, ◌<◌, length}
 use Rattle.std.proofs.Common.{◌∙◌, ap, subst, inl, inr, le_trans, le_of_lt, arith, eq-eqb, ne_eqb}
 use Rattle.nodeset.specs.declared.NodeSet.{NodeSet}
 use Rattle.nodeset.specs.Members.{HasExactly}
@@ -23,7 +23,7 @@ use Rattle.evaluation.specs.Evaluated.{lent_valid}
 use Rattle.evaluation.specs.Sweep.{add_to, entries_swept, begun, KeepsEnds, Swept, swept_none, swept_one, swept_all, keeps_empty, keeps_no_path, keeps_step, keeps_jump, keeps_test, keeps_fork}
 
 -- entry i of a sweep, read as e, of this kind, with its pending set, which is not empty
-pub record PathEntry (bs table alike : List ℕ) (n i : ℕ) (e : Entry) (kind : PathKind) (pending : List ℕ) (s : NodeSet) : Type 0 where
+pub record PathEntry (bs table alike : List ℕ) (n i : ℕ) (e : Entry) (kind : Option PathKind) (pending : List ℕ) (s : NodeSet) : Type 0 where
   pub lent : Lent bs table alike n
   pub within : i < count_of bs
   pub long : pending_bytes ≤ length pending
@@ -48,54 +48,54 @@ pub sweeps_none : {bs table alike : List ℕ} {n : ℕ} → Lent bs table alike 
     → is_empty (set_at pending i) ≡ true → EntrySwept bs table alike n i pending pending
 sweeps_none {bs} lent i pending none w = keeps_empty w.model w.named bs (lent_valid lent) pending i none
 
-module _ {bs table alike : List ℕ} {n i : ℕ} {e : Entry} {kind : PathKind} {pending : List ℕ} {s : NodeSet}
+module _ {bs table alike : List ℕ} {n i : ℕ} {e : Entry} {kind : Option PathKind} {pending : List ℕ} {s : NodeSet}
     (q : PathEntry bs table alike n i e kind pending s) where
-  kind_is : (t : PathKind) → kind ≡ t → IsPathKind t (entry_at bs i).kind
+  kind_is : (t : Option PathKind) → kind ≡ t → IsPathKind t (entry_at bs i).kind
   kind_is t is =
-      subst (λ (t' : PathKind). IsPathKind t' (entry_at bs i).kind) is
+      subst (λ (t' : Option PathKind). IsPathKind t' (entry_at bs i).kind) is
       (path_kind_is (entry_at bs i).kind kind (q.by ∙ ap (λ (e' : Entry). path_kind_of e'.kind) q.same))
 
   ok : Valid bs (count_of bs)
   ok = lent_valid q.lent
 
-  pub step_axis : kind ≡ PathKind.Step → e.x ≤ max_axis
-  step_axis is = rw q.same (within_as ok i q.within Kind.Step (kind_is PathKind.Step is)).0
+  pub step_axis : kind ≡ Some PathKind.Step → e.x ≤ max_axis
+  step_axis is = rw q.same (within_as ok i q.within Kind.Step (kind_is (Some PathKind.Step) is)).0
 
-  pub jump_name : kind ≡ PathKind.Jump → e.x ≤ max_name
-  jump_name is = rw q.same (within_as ok i q.within Kind.Jump (kind_is PathKind.Jump is)).0
+  pub jump_name : kind ≡ Some PathKind.Jump → e.x ≤ max_name
+  jump_name is = rw q.same (within_as ok i q.within Kind.Jump (kind_is (Some PathKind.Jump) is)).0
 
-  pub test_node : kind ≡ PathKind.Test → EarlierNode bs i e.x
-  test_node is = rw q.same (refers_as ok i q.within Kind.Test (kind_is PathKind.Test is)).0
+  pub test_node : kind ≡ Some PathKind.Test → EarlierNode bs i e.x
+  test_node is = rw q.same (refers_as ok i q.within Kind.Test (kind_is (Some PathKind.Test) is)).0
 
-  pub test_rest : kind ≡ PathKind.Test → table_bytes (e.y + 1) ≤ length pending
+  pub test_rest : kind ≡ Some PathKind.Test → table_bytes (e.y + 1) ≤ length pending
   test_rest is = rw q.same
-      (le_trans (reference_fits ok (entry_at bs i).y (earlier_path bs i (count_of bs) (entry_at bs i).y (le_of_lt q.within) (refers_as ok i q.within Kind.Test (kind_is PathKind.Test is)).1)) q.long)
+      (le_trans (reference_fits ok (entry_at bs i).y (earlier_path bs i (count_of bs) (entry_at bs i).y (le_of_lt q.within) (refers_as ok i q.within Kind.Test (kind_is (Some PathKind.Test) is)).1)) q.long)
 
-  pub sweeps_step : (t : NodeSet) → kind ≡ PathKind.Step
+  pub sweeps_step : (t : NodeSet) → kind ≡ Some PathKind.Step
       → HasExactly (Image (λ u. set_at table (successors_row e.x u)) s) t
       → EntrySwept bs table alike n i pending (add_to pending e.y t)
   sweeps_step t is image =
       rw q.same
-      (λ w. keeps_step w.model w.named bs ok pending i q.within q.long table t w.tabled (kind_is PathKind.Step is) (rw (q.same, q.set) at image))
+      (λ w. keeps_step w.model w.named bs ok pending i q.within q.long table t w.tabled (kind_is (Some PathKind.Step) is) (rw (q.same, q.set) at image))
 
-  pub sweeps_jump : kind ≡ PathKind.Jump → EntrySwept bs table alike n i pending (add_to pending e.y (set_at table (name_row e.x)))
+  pub sweeps_jump : kind ≡ Some PathKind.Jump → EntrySwept bs table alike n i pending (add_to pending e.y (set_at table (name_row e.x)))
   sweeps_jump is =
       rw q.same
-      (λ w. keeps_jump w.model w.named bs ok pending i q.within q.long table w.tabled (kind_is PathKind.Jump is) (rw q.set at q.some))
+      (λ w. keeps_jump w.model w.named bs ok pending i q.within q.long table w.tabled (kind_is (Some PathKind.Jump) is) (rw q.set at q.some))
 
-  pub sweeps_test : (t : NodeSet) → kind ≡ PathKind.Test → Evaluates bs table alike n e.x t
+  pub sweeps_test : (t : NodeSet) → kind ≡ Some PathKind.Test → Evaluates bs table alike n e.x t
       → EntrySwept bs table alike n i pending (add_to pending e.y (meet s t))
   sweeps_test t is held =
       rw (q.same, q.set)
-      (λ w. keeps_test w.model w.named bs ok pending i q.within q.long t (kind_is PathKind.Test is) ((rw q.same at held) w))
+      (λ w. keeps_test w.model w.named bs ok pending i q.within q.long t (kind_is (Some PathKind.Test) is) ((rw q.same at held) w))
 
-  pub sweeps_fork : kind ≡ PathKind.Fork → EntrySwept bs table alike n i pending (add_to (add_to pending e.x s) e.y s)
+  pub sweeps_fork : kind ≡ Some PathKind.Fork → EntrySwept bs table alike n i pending (add_to (add_to pending e.x s) e.y s)
   sweeps_fork is =
       rw (q.same, q.set)
-      (λ w. keeps_fork w.model w.named bs ok pending i q.within q.long (kind_is PathKind.Fork is))
+      (λ w. keeps_fork w.model w.named bs ok pending i q.within q.long (kind_is (Some PathKind.Fork) is))
 
-  pub sweeps_no_path : kind ≡ PathKind.NoPath → EntrySwept bs table alike n i pending pending
-  sweeps_no_path is w = keeps_no_path w.model w.named bs ok pending i (kind_is PathKind.NoPath is)
+  pub sweeps_no_path : kind ≡ None → EntrySwept bs table alike n i pending pending
+  sweeps_no_path is w = keeps_no_path w.model w.named bs ok pending i (kind_is None is)
 
 -- the sweep as a whole
 module _ {bs table alike : List ℕ} {n : ℕ} (lent : Lent bs table alike n) (first from : ℕ) where

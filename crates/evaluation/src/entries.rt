@@ -11,12 +11,12 @@ ghost use Rattle.pattern.specs.declared.table.Sort.{Sort};
 ghost use Rattle.pattern.specs.File.Entries.{entry_at};
 ghost use Rattle.pattern.specs.File.Reading.{count_of, sort_at};
 ghost use Rattle.relations.specs.Kinds.{comparison_kind};
-ghost use Rattle.evaluation.specs.Standing.{pending_bytes, Lent, Evaluates, Ends};
+ghost use Rattle.evaluation.specs.Standing.{pending_bytes};
+ghost use Rattle.evaluation.specs.Judged.{FindsNodes, FindsEnds, Sweeps, Knows};
 ghost use Rattle.slots.specs.Marks.{PathOf};
-ghost use Rattle.evaluation.specs.Learned.{Learned};
 ghost use Rattle.evaluation.specs.Sweep.{add_to, entries_swept};
-ghost use Rattle.evaluation.specs.SweepEntry.{EntrySwept};
 
+use crate::judged::{Judged, Known};
 use nodeset::NodeSet;
 use path_rows::compare_rows;
 use pattern::entry::Entry;
@@ -25,143 +25,133 @@ use pattern::types::Comparison;
 use relations::kinds::{NodeKind, PathKind, node_kind, path_kind};
 use relations::model::{all_nodes, before, image, with_name, with_property};
 use relations::values::some_pair;
-use slots::marks::{MARKS_BYTES, is_held, is_known, row_of_path, set_place};
 
 // The bytes of the pending sets of a sweep: one for each reference, the end of path the last.
 const PENDING_BYTES: usize = NodeSet::BYTES * (ENDS + 1);
 
 const ENDS: usize = END as usize;
 
-// The set of the nodes at which node entry k holds.
-#[cycle(compare_compute_ends_evaluate_sweep_entry)]
-pub fn evaluate(
-    p: &[u8],
-    table: &[u8],
-    alike: &[u8],
-    area: &[u8],
-    rows: &[u8],
-    marks: &[u8; MARKS_BYTES],
-    n: u8,
-    k: u8,
-) -> NodeSet
-    requires lent { Lent p.now table.now alike.now n }
-    requires learned { Learned p.now table.now alike.now n area.now rows.now marks.now }
-    requires k_bound { (k < count_of p.now) × (sort_at p.now k ≡ Sort.Node) }
-    ensures { Evaluates p.now table.now alike.now n k result }
-{
-    if is_known(marks, k) {
-        return NodeSet::load(area, set_place(marks, k) as usize);
+impl Judged<'_> {
+    // The set of the nodes at which node entry k holds.
+    #[cycle(evaluation)]
+    pub fn evaluate(&self, known: &Known, k: u8) -> NodeSet
+        requires learned { Knows self.now known.now }
+        requires k_bound { (k < count_of self.now.p.now) × (sort_at self.now.p.now k ≡ Sort.Node) }
+        ensures { FindsNodes self.now k result }
+    {
+        if known.marks.is_known(k) {
+            return NodeSet::load(known.area, known.marks.set_place(k) as usize);
+        }
+        self.compute(known, k)
     }
-    compute(p, table, alike, area, rows, marks, n, k)
-}
 
-// The same from the sets and the ends of the entries that it refers to.
-#[cycle(compare_compute_ends_evaluate_sweep_entry)]
-fn compute(
-    p: &[u8],
-    table: &[u8],
-    alike: &[u8],
-    area: &[u8],
-    rows: &[u8],
-    marks: &[u8; MARKS_BYTES],
-    n: u8,
-    k: u8,
-) -> NodeSet
-    requires lent { Lent p.now table.now alike.now n }
-    requires learned { Learned p.now table.now alike.now n area.now rows.now marks.now }
-    requires k_bound { (k < count_of p.now) × (sort_at p.now k ≡ Sort.Node) }
-    ensures { Evaluates p.now table.now alike.now n k result }
-{
-    let e = Entry::at(p, k);
-    match node_kind(e) {
-        NodeKind::Property => with_property(table, e.x),
-        NodeKind::Name => with_name(table, e.x),
-        NodeKind::Not => {
-            let s = evaluate(p, table, alike, area, rows, marks, n, e.x);
-            all_nodes(table).minus(s)
+    // The same from the sets and the ends of the entries that it refers to.
+    #[cycle(evaluation)]
+    fn compute(&self, known: &Known, k: u8) -> NodeSet
+        requires learned { Knows self.now known.now }
+        requires k_bound { (k < count_of self.now.p.now) × (sort_at self.now.p.now k ≡ Sort.Node) }
+        ensures { FindsNodes self.now k result }
+    {
+        let e = Entry::at(self.p, k);
+        let Some(kind) = node_kind(e) else {
+            return NodeSet::empty();
+        };
+        match kind {
+            NodeKind::Property => with_property(self.table, e.x),
+            NodeKind::Name => with_name(self.table, e.x),
+            NodeKind::Not => {
+                let s = self.evaluate(known, e.x);
+                all_nodes(self.table).minus(s)
+            }
+            NodeKind::Both => {
+                let s = self.evaluate(known, e.x);
+                s.meet(self.evaluate(known, e.y))
+            }
+            NodeKind::Either => {
+                let s = self.evaluate(known, e.x);
+                s.union(self.evaluate(known, e.y))
+            }
+            NodeKind::After => {
+                let s = self.evaluate(known, e.y);
+                before(self.table, self.n, e.x, s)
+            }
+            NodeKind::Compare(c) => self.compare(known, k, c),
         }
-        NodeKind::Both => {
-            let s = evaluate(p, table, alike, area, rows, marks, n, e.x);
-            s.meet(evaluate(p, table, alike, area, rows, marks, n, e.y))
-        }
-        NodeKind::Either => {
-            let s = evaluate(p, table, alike, area, rows, marks, n, e.x);
-            s.union(evaluate(p, table, alike, area, rows, marks, n, e.y))
-        }
-        NodeKind::After => {
-            let s = evaluate(p, table, alike, area, rows, marks, n, e.y);
-            before(table, n, e.x, s)
-        }
-        NodeKind::Compare(c) => compare(p, table, alike, area, rows, marks, n, k, c),
-        NodeKind::NoNode => NodeSet::empty(),
     }
-}
 
-// The set of the nodes at which entry k, a comparison, holds.
-#[cycle(compare_compute_ends_evaluate_sweep_entry)]
-fn compare(
-    p: &[u8],
-    table: &[u8],
-    alike: &[u8],
-    area: &[u8],
-    rows: &[u8],
-    marks: &[u8; MARKS_BYTES],
-    n: u8,
-    k: u8,
-    c: Comparison,
-) -> NodeSet
-    requires lent { Lent p.now table.now alike.now n }
-    requires learned { Learned p.now table.now alike.now n area.now rows.now marks.now }
-    requires k_bound { (k < count_of p.now) × ((entry_at p.now k).kind ≡ comparison_kind c) }
-    ensures { Evaluates p.now table.now alike.now n k result }
-{
-    let e = Entry::at(p, k);
-    if is_held(marks, e.y) & is_held(marks, e.z) {
-        let first = row_of_path(marks, n, e.y);
-        let second = row_of_path(marks, n, e.z);
-        return compare_rows(alike, rows, n, e.x, c, first, second);
+    // The set of the nodes at which entry k, a comparison, holds.
+    #[cycle(evaluation)]
+    fn compare(&self, known: &Known, k: u8, c: Comparison) -> NodeSet
+        requires learned { Knows self.now known.now }
+        requires k_bound { (k < count_of self.now.p.now) × ((entry_at self.now.p.now k).kind ≡ comparison_kind c) }
+        ensures { FindsNodes self.now k result }
+    {
+        let e = Entry::at(self.p, k);
+        if known.marks.is_held(e.y) & known.marks.is_held(e.z) {
+            let first = known.marks.row_of_path(self.n, e.y);
+            let second = known.marks.row_of_path(self.n, e.z);
+            return compare_rows(self.alike, known.rows, self.n, e.x, c, first, second);
+        }
+        let mut found = NodeSet::empty();
+        for u in 0..self.n {
+            let s = self.ends(known, e.y, u);
+            let t = self.ends(known, e.z, u);
+            found = found.insert_if(u, some_pair(self.alike, e.x, c, s, t));
+        }
+        found
     }
-    let mut found = NodeSet::empty();
-    let mut u = 0;
-    while u < n {
-        let s = ends(p, table, alike, area, rows, marks, n, e.y, u);
-        let t = ends(p, table, alike, area, rows, marks, n, e.z, u);
-        found = found.insert_if(u, some_pair(alike, e.x, c, s, t));
-        u += 1;
-    }
-    found
-}
 
-// The nodes to which a path leads from a node: by its rows, or by one sweep down the entries from its
-// first, with a pending set for each reference. The set of the end of path is the answer then.
-#[cycle(compare_compute_ends_evaluate_sweep_entry)]
-fn ends(
-    p: &[u8],
-    table: &[u8],
-    alike: &[u8],
-    area: &[u8],
-    rows: &[u8],
-    marks: &[u8; MARKS_BYTES],
-    n: u8,
-    path: u8,
-    u: u8,
-) -> NodeSet
-    requires lent { Lent p.now table.now alike.now n }
-    requires learned { Learned p.now table.now alike.now n area.now rows.now marks.now }
-    requires path_of { PathOf p.now path × (u < n) }
-    ensures { Ends p.now table.now alike.now n path u result }
-{
-    if is_held(marks, path) {
-        return NodeSet::load(rows, row_of_path(marks, n, path) + (u as usize));
+    // The nodes to which a path leads from a node: by its rows, or by one sweep down the entries from its
+    // first, with a pending set for each reference. The set of the end of path is the answer then.
+    #[cycle(evaluation)]
+    fn ends(&self, known: &Known, path: u8, u: u8) -> NodeSet
+        requires learned { Knows self.now known.now }
+        requires path_of { PathOf self.now.p.now path × (u < self.now.n) }
+        ensures { FindsEnds self.now path u result }
+    {
+        if known.marks.is_held(path) {
+            return NodeSet::load(
+                known.rows,
+                known.marks.row_of_path(self.n, path) + (u as usize),
+            );
+        }
+        let mut pending = [0u8; PENDING_BYTES];
+        NodeSet::only(u).store(&mut pending, path as usize);
+        for j in (0..entries_swept(path)).rev() {
+            self.sweep_entry(known, j, &mut pending);
+        }
+        NodeSet::load(&pending, ENDS)
     }
-    let mut pending = [0u8; PENDING_BYTES];
-    NodeSet::only(u).store(&mut pending, path as usize);
-    let mut j = entries_swept(path);
-    while 0 < j {
-        j -= 1;
-        sweep_entry(p, table, alike, area, rows, marks, n, j, &mut pending);
+
+    // Entry i of a sweep: what is pending there moves on to the rest of its path.
+    #[cycle(evaluation)]
+    fn sweep_entry(&self, known: &Known, i: u8, pending: &mut [u8])
+        requires learned { Knows self.now known.now }
+        requires i_bound { i < count_of self.now.p.now }
+        requires pending_bytes_in_bounds { pending_bytes ≤ length pending.old }
+        ensures { Sweeps self.now i pending.old pending.new }
+    {
+        let s = NodeSet::load(pending, i as usize);
+        if s.is_empty() {
+            return;
+        }
+        let e = Entry::at(self.p, i);
+        let Some(kind) = path_kind(e) else {
+            return;
+        };
+        match kind {
+            PathKind::Step => add(pending, e.y, image(self.table, e.x, s)),
+            PathKind::Jump => add(pending, e.y, with_name(self.table, e.x)),
+            PathKind::Test => {
+                let t = self.evaluate(known, e.x);
+                add(pending, e.y, s.meet(t));
+            }
+            PathKind::Fork => {
+                add(pending, e.x, s);
+                add(pending, e.y, s);
+            }
+        }
     }
-    NodeSet::load(&pending, ENDS)
 }
 
 // Adds a set to the pending set of a path reference.
@@ -171,45 +161,6 @@ fn add(pending: &mut [u8], r: u8, s: NodeSet)
 {
     let at = r as usize;
     NodeSet::load(pending, at).union(s).store(pending, at);
-}
-
-// Entry i of a sweep: what is pending there moves on to the rest of its path.
-#[cycle(compare_compute_ends_evaluate_sweep_entry)]
-fn sweep_entry(
-    p: &[u8],
-    table: &[u8],
-    alike: &[u8],
-    area: &[u8],
-    rows: &[u8],
-    marks: &[u8; MARKS_BYTES],
-    n: u8,
-    i: u8,
-    pending: &mut [u8],
-)
-    requires lent { Lent p.now table.now alike.now n }
-    requires learned { Learned p.now table.now alike.now n area.now rows.now marks.now }
-    requires i_bound { i < count_of p.now }
-    requires pending_bytes_in_bounds { pending_bytes ≤ length pending.old }
-    ensures { EntrySwept p.now table.now alike.now n i pending.old pending.new }
-{
-    let s = NodeSet::load(pending, i as usize);
-    if s.is_empty() {
-        return;
-    }
-    let e = Entry::at(p, i);
-    match path_kind(e) {
-        PathKind::Step => add(pending, e.y, image(table, e.x, s)),
-        PathKind::Jump => add(pending, e.y, with_name(table, e.x)),
-        PathKind::Test => {
-            let t = evaluate(p, table, alike, area, rows, marks, n, e.x);
-            add(pending, e.y, s.meet(t));
-        }
-        PathKind::Fork => {
-            add(pending, e.x, s);
-            add(pending, e.y, s);
-        }
-        PathKind::NoPath => {}
-    }
 }
 
 // How many entries a sweep from a path reference goes through: the entry itself and those below it,

@@ -3,5 +3,6 @@
 #![tactic(auto)]
 
 mod entries;
+mod judged;
 
-pub use entries::evaluate;
+pub use judged::{Judged, Known};

@@ -5,21 +5,10 @@ ghost use Rattle.std.specs.Prelude.{◌≡◌};
 ghost use Rattle.pattern.specs.File.Fields.{each_field};
 ghost use Rattle.pattern.specs.File.Entries.{HasEntry};
 ghost use Rattle.pattern.specs.File.Reading.{in_range, earlier_sort, refers_back};
-ghost use Rattle.fields.specs.Tests.{field_test};
 
 use pattern::entry::{Entry, sort_at};
 use pattern::table::{END, Field, Sort};
-use pattern::types::{
-    Axis, AxisMade, Channel, ChannelMade, Name, NameMade, Property, PropertyMade,
-};
-
-// The tests that a field is put to: that its value is in range, for refusal 5, and that a reference
-// goes back to an entry of its sort, for 6.
-#[derive(Clone, Copy)]
-pub enum FieldTest {
-    Range,
-    Reference,
-}
+use pattern::types::{Axis, Channel, Name, Property};
 
 // Whether the value of a field is in the range of what the field holds.
 fn in_range(field: Field, value: u8) -> bool
@@ -27,24 +16,11 @@ fn in_range(field: Field, value: u8) -> bool
 {
     match field {
         Field::Unused => value == 0,
-        Field::Property => match Property::of(value) {
-            PropertyMade::Made(_) => true,
-            PropertyMade::OutOfRange => false,
-        },
-        Field::Name => match Name::of(value) {
-            NameMade::Made(_) => true,
-            NameMade::OutOfRange => false,
-        },
-        Field::Axis => match Axis::of(value) {
-            AxisMade::Made(_) => true,
-            AxisMade::OutOfRange => false,
-        },
-        Field::Channel => match Channel::of(value) {
-            ChannelMade::Made(_) => true,
-            ChannelMade::OutOfRange => false,
-        },
-        Field::Node => true,
-        Field::Path => true,
+        Field::Property => Property::try_from(value).is_ok(),
+        Field::Name => Name::try_from(value).is_ok(),
+        Field::Axis => Axis::try_from(value).is_ok(),
+        Field::Channel => Channel::try_from(value).is_ok(),
+        Field::Node | Field::Path => true,
     }
 }
 
@@ -66,46 +42,28 @@ fn refers_back(p: &[u8], k: u8, field: Field, value: u8) -> bool
 {
     match field {
         Field::Node => earlier_sort(p, k, value).is_node(),
-        Field::Path => {
-            if value == END {
-                return true;
-            }
-            earlier_sort(p, k, value).is_path()
-        }
-        Field::Unused => true,
-        Field::Property => true,
-        Field::Name => true,
-        Field::Axis => true,
-        Field::Channel => true,
+        Field::Path => value == END || earlier_sort(p, k, value).is_path(),
+        Field::Unused | Field::Property | Field::Name | Field::Axis | Field::Channel => true,
     }
 }
 
-// Whether one field of entry k passes the test.
-fn field_passes(p: &[u8], k: u8, test: FieldTest, field: Field, value: u8) -> bool
-    requires { HasEntry p.now k }
-    ensures { result ≡ field_test p.now k test field value }
+// Whether the value of each field of the entry is in range, for refusal 5.
+#[tactic(auto, unfolding(pattern::specs::File::Fields::each_field))]
+pub fn all_in_range(e: Entry) -> bool
+    ensures { result ≡ each_field in_range e }
 {
-    match test {
-        FieldTest::Range => in_range(field, value),
-        FieldTest::Reference => refers_back(p, k, field, value),
-    }
+    let form = e.kind.form();
+    in_range(form.x, e.x) && in_range(form.y, e.y) && in_range(form.z, e.z)
 }
 
-// Whether the three fields of entry k, which is e, pass the test.
-pub fn fields_pass(p: &[u8], k: u8, test: FieldTest, e: Entry) -> bool
+// Whether each reference of entry k, which is e, goes back to an entry of its sort, for refusal 6.
+#[tactic(auto, unfolding(pattern::specs::File::Fields::each_field))]
+pub fn all_refer_back(p: &[u8], k: u8, e: Entry) -> bool
     requires { HasEntry p.now k }
-    ensures { result ≡ each_field (field_test p.now k test) e }
+    ensures { result ≡ each_field (refers_back p.now k) e }
 {
-    let kind = e.kind;
-    let form = kind.form();
-    let x = form.x;
-    let y = form.y;
-    let z = form.z;
-    if !field_passes(p, k, test, x, e.x) {
-        return false;
-    }
-    if !field_passes(p, k, test, y, e.y) {
-        return false;
-    }
-    field_passes(p, k, test, z, e.z)
+    let form = e.kind.form();
+    refers_back(p, k, form.x, e.x)
+        && refers_back(p, k, form.y, e.y)
+        && refers_back(p, k, form.z, e.z)
 }

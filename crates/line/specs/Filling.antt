@@ -14,6 +14,15 @@ use Rattle.line.specs.Spelling.{fewest_decimal, five_digits}
 abbrev pub put_at : List ℕ → ℕ → List ℕ → List ℕ
 put_at buf at text = take at buf ++ text ++ drop (at + length text) buf
 
+-- the bytes of the longest line
+abbrev pub line_bytes : ℕ
+line_bytes = 31
+
+-- a text is put into a buffer from place `at` on, and ends before place `end`
+pub record Put (text before : List ℕ) (at : ℕ) (after : List ℕ) (end : ℕ) : Type 0 where
+  pub stands : after ≡ put_at before at text
+  pub ends : end ≡ at + length text
+
 -- a text stands at the start of a buffer, and behind it what stood there; the number is its length
 pub record LineFilled (front before after : List ℕ) (end : ℕ) : Type 0 where
   pub stands : after ≡ onto front before

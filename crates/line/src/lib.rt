@@ -5,10 +5,11 @@
 
 ghost use Rattle.std.specs.Prelude.{◌≡◌, ◌++◌, ◌+◌, ◌≤◌, length};
 ghost use Rattle.line.specs.Line.{number, line_of};
-ghost use Rattle.line.specs.Filling.{put_at, LineFilled};
+ghost use Rattle.line.specs.Filling.{line_bytes, Put, LineFilled};
 ghost use Rattle.line.specs.LineFeed.{without_line_feed};
 
-// What the line that is printed says: its word and its numbers.
+// What the line that is printed says: its word and its numbers. One type for the findings of every program,
+// with `unmet` a word of its own.
 #[derive(Clone, Copy)]
 pub enum Report {
     Closed(u16, u16, u16, u16),
@@ -22,76 +23,79 @@ pub enum Report {
 // the line feed.
 pub const LINE_BYTES: usize = 31;
 
-// Puts the text into the buffer from place at on, and answers the place behind it.
-fn put(text: &[u8], buf: &mut [u8], at: usize) -> usize
-    requires { at + length text.now ≤ length buf.old }
-    ensures { (result ≡ at + length text.now) × (buf.new ≡ put_at buf.old at text.now) }
-{
-    let end = at + text.len();
-    buf[at..end].copy_from_slice(text);
-    end
+// A line that is being filled: its first `len` bytes stand at the start of the buffer. `Report` has no
+// `impl Display` instead: std says of `write!` what was written if it is `Ok`, but not that it is `Ok`,
+// and `fill` promises the line of every report.
+#[derive(Drop)]
+struct Line<'a> {
+    buf: &'a mut [u8; LINE_BYTES],
+    len: usize,
 }
 
-// Puts a space and the number into the buffer from place at on, and answers the place behind them.
-fn put_number(n: u16, buf: &mut [u8], at: usize) -> usize
-    requires { at + 6 ≤ length buf.old }
-    ensures { (result ≡ at + length (number n)) × (result ≤ at + 6) × (buf.new ≡ put_at buf.old at (number n)) }
-{
-    let mut digits = [0u8; 20];
-    let k = io::decimal(n as u64, &mut digits);
-    let digits_at = put(b" ", buf, at);
-    put(&digits[..k], buf, digits_at)
-}
+impl<'a> Line<'a> {
+    // Puts a text behind what stands.
+    #[tactic(auto, using(wire::specs::Onto::put_from_at))]
+    fn put(&mut self, text: &[u8])
+        requires { self.old.len + length text.now ≤ line_bytes }
+        ensures room { self.old.len ≤ length self.old.buf.now }
+        ensures put { Put text.now self.old.buf.now self.old.len self.new.buf.now self.new.len }
+        ensures same { self.new.buf.ghost_name ≡ self.old.buf.ghost_name }
+    {
+        let at = self.len;
+        wire::copy_at(self.buf, at, text);
+        self.len = at + text.len();
+    }
 
-// Puts a word and two numbers at the start of the buffer, and answers the place behind them.
-fn put_pair(word: &[u8], a: u16, b: u16, buf: &mut [u8]) -> usize
-    requires { length word.now + 12 ≤ length buf.old }
-    ensures filled { LineFilled (word.now ++ number a ++ number b) buf.old buf.new result }
-    ensures room { result ≤ length word.now + 12 }
-{
-    let first = put(word, buf, 0);
-    let second = put_number(a, buf, first);
-    put_number(b, buf, second)
+    // Puts a space and the number.
+    fn put_number(&mut self, n: u16)
+        requires { self.old.len + 6 ≤ line_bytes }
+        ensures put { Put (number n) self.old.buf.now self.old.len self.new.buf.now self.new.len }
+        ensures short { self.new.len ≤ self.old.len + 6 }
+        ensures same { self.new.buf.ghost_name ≡ self.old.buf.ghost_name }
+    {
+        let mut digits = [0u8; 20];
+        let k = io::decimal(n as u64, &mut digits);
+        self.put(b" ");
+        self.put(&digits[..k]);
+    }
 }
 
 // Puts the line of the report at the start of the buffer, and answers its length.
 pub fn fill(report: Report, buf: &mut [u8; LINE_BYTES]) -> usize
     ensures { LineFilled (line_of report) buf.old buf.new result }
 {
+    let mut line = Line { buf, len: 0 };
     match report {
         Report::Closed(steps, clashes, forks, most) => {
-            let third = put_pair(b"closed", steps, clashes, buf);
-            let fourth = put_number(forks, buf, third);
-            let end = put_number(most, buf, fourth);
-            put(b"\n", buf, end)
+            line.put(b"closed");
+            line.put_number(steps);
+            line.put_number(clashes);
+            line.put_number(forks);
+            line.put_number(most);
         }
         Report::Met(lowest, nodes) => {
-            let end = put_pair(b"met", lowest as u16, nodes as u16, buf);
-            put(b"\n", buf, end)
+            line.put(b"met");
+            line.put_number(lowest as u16);
+            line.put_number(nodes as u16);
         }
-        Report::Unmet => put(b"unmet\n", buf, 0),
+        Report::Unmet => line.put(b"unmet"),
         Report::Written(length) => {
-            let number = put(b"written", buf, 0);
-            let end = put_number(length, buf, number);
-            put(b"\n", buf, end)
+            line.put(b"written");
+            line.put_number(length);
         }
         Report::Refused(refusal, place) => {
-            let end = put_pair(b"refused", refusal as u16, place, buf);
-            put(b"\n", buf, end)
+            line.put(b"refused");
+            line.put_number(refusal as u16);
+            line.put_number(place);
         }
     }
+    line.put(b"\n");
+    line.len
 }
 
 // What was read without one line feed at its end, if there is one: a person ends a line with it.
 pub fn without_line_feed(read: &[u8]) -> &[u8]
     ensures { result.now ≡ without_line_feed read.now }
 {
-    if read.len() == 0 {
-        return read;
-    }
-    let last = read.len() - 1;
-    if read[last] == b'\n' {
-        return &read[..last];
-    }
-    read
+    read.strip_suffix(b"\n").unwrap_or(read)
 }

@@ -6,7 +6,7 @@ ghost use Rattle.lines.specs.Parts.{channel_at, with_left};
 use pattern::types::{Axis, Channel, Comparison, Name, Sign};
 
 // "i has or lacks φ"; φ is a node entry's number.
-#[derive(Clone, Copy)]
+#[derive(Clone, Copy, PartialEq, Eq)]
 pub struct HasLine {
     pub sign: Sign,
     pub name: Name,
@@ -14,7 +14,7 @@ pub struct HasLine {
 }
 
 // "i is or is not j".
-#[derive(Clone, Copy)]
+#[derive(Clone, Copy, PartialEq, Eq)]
 pub struct IsLine {
     pub sign: Sign,
     pub first: Name,
@@ -22,7 +22,7 @@ pub struct IsLine {
 }
 
 // "axis a leads from i to j (no sign)".
-#[derive(Clone, Copy)]
+#[derive(Clone, Copy, PartialEq, Eq)]
 pub struct EdgeLine {
     pub axis: Axis,
     pub from: Name,
@@ -30,7 +30,7 @@ pub struct EdgeLine {
 }
 
 // A side of a comparison, (i, α); α is a path reference.
-#[derive(Clone, Copy)]
+#[derive(Clone, Copy, PartialEq, Eq)]
 pub struct Side {
     pub name: Name,
     pub path: u8,
@@ -38,7 +38,7 @@ pub struct Side {
 
 // "a comparison, holding or barred, of same or differ on channel e between (i, α) and (j, β)"; it is
 // held where the sign is positive and barred where it is negative.
-#[derive(Clone, Copy)]
+#[derive(Clone, Copy, PartialEq, Eq)]
 pub struct CompareLine {
     pub sign: Sign,
     pub comparison: Comparison,
@@ -47,8 +47,8 @@ pub struct CompareLine {
     pub right: Side,
 }
 
-// The form of a line, without its parts.
-#[derive(Clone, Copy)]
+// The form of a line, without its parts: it is read first, so that a rule reads the parts of its form alone.
+#[derive(Clone, Copy, PartialEq, Eq)]
 pub enum Form {
     Has,
     Is,
@@ -56,7 +56,7 @@ pub enum Form {
     Compare,
 }
 
-#[derive(Clone, Copy)]
+#[derive(Clone, Copy, PartialEq, Eq)]
 pub enum Line {
     Has(HasLine),
     Is(IsLine),
@@ -64,6 +64,8 @@ pub enum Line {
     Compare(CompareLine),
 }
 
+// The lines are written here and nowhere else, so that a rule reads as the document does: each form by a
+// function of its own, since the forms share no field.
 pub fn has_line(sign: Sign, name: Name, node: u8) -> Line
     ensures { result ≡ has sign name node }
 {
@@ -115,27 +117,23 @@ impl CompareLine {
     pub fn with_left(self, left: Side) -> Line
         ensures { result ≡ with_left self left }
     {
-        let sign = self.sign;
-        let comparison = self.comparison;
-        let channel = self.channel;
-        let right = self.right;
-        compare_line(sign, comparison, channel, left, right)
+        Line::Compare(CompareLine { left, ..self })
     }
 
     // The comparison with its two sides exchanged.
     pub fn exchanged(self) -> Line
         ensures { result ≡ compare self.sign self.comparison self.channel self.right self.left }
     {
-        let sign = self.sign;
-        let comparison = self.comparison;
-        let channel = self.channel;
-        let left = self.left;
-        let right = self.right;
-        compare_line(sign, comparison, channel, right, left)
+        Line::Compare(CompareLine {
+            left: self.right,
+            right: self.left,
+            ..self
+        })
     }
 }
 
-// The channel of a number up to 3; a pattern that was read has no other.
+// The channel of a number up to 3; a pattern that was read has no other. Not `Channel::try_from`: that one
+// refuses, and here is nothing to refuse.
 pub fn channel_at(number: u8) -> Channel
     ensures { result ≡ channel_at number }
 {

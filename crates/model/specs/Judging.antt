@@ -1,7 +1,7 @@
 -- Judging a model, 01's "Findings" and 02's Jobs 1, 3 and 5: the refusals in their order, the finding, what becomes of the working area, and
 -- what a finding says.
 -- Assumes nothing.
-use Rattle.std.specs.Prelude.{Bool, not, ◌&&◌, List, ℕ, ◌+◌, ◌*◌, ◌≤◌, ltb}
+use Rattle.std.specs.Prelude.{Bool, not, ◌&&◌, List, ℕ, ◌+◌, ◌*◌, ◌≤◌, ltb, Option, Some, None, Result, Ok, Err}
 use Rattle.wire.specs.Cleared.{cleared}
 use Rattle.pattern.specs.Checks.Finding.{Finding, found, refused, Check, passes, refuses, refuses_if, ◌then◌, unless}
 use Rattle.pattern.specs.Checks.Range.{some_below}
@@ -21,7 +21,7 @@ use Rattle.model_records.specs.Order.{EdgesRise}
 use Rattle.model_records.specs.Checks.{model_check}
 use Rattle.model_records.specs.Valid.{ValidModel, all_named}
 use Rattle.model.specs.declared.finding.JudgeRefusal.{JudgeRefusal}
-use Rattle.model.specs.declared.finding.ModelFinding.{ModelFinding}
+use Rattle.model.specs.declared.finding.Met.{Met}
 
 -- 02, Job 5: "8 bytes for each node entry of the pattern": what judging a model wants of its working area, and zeroes; they are those of
 -- evaluation's sets, `area_bytes`
@@ -95,7 +95,10 @@ refusal_place JudgeRefusal.Area = 0
 refusal_place (JudgeRefusal.Model refusal) = file.refusal_place refusal
 refusal_place (JudgeRefusal.Unlisted name) = name
 
-abbrev pub finding_of : ModelFinding → Finding Judged
-finding_of (ModelFinding.Met lowest number) = found (met lowest number)
-finding_of ModelFinding.Unmet = found unmet
-finding_of (ModelFinding.Refused refusal) = refused (refusal_number refusal) (refusal_place refusal)
+abbrev pub judged_as : Option Met → Judged
+judged_as (Some m) = met m.lowest m.number
+judged_as None = unmet
+
+abbrev pub finding_of : Result (Option Met) JudgeRefusal → Finding Judged
+finding_of (Ok m) = found (judged_as m)
+finding_of (Err refusal) = refused (refusal_number refusal) (refusal_place refusal)

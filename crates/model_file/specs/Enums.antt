@@ -1,9 +1,8 @@
 -- What the code's answers mean: the refusals of a model file, and the outcome of a check.
 -- Assumes nothing.
-use Rattle.std.specs.Prelude.{ℕ}
+use Rattle.std.specs.Prelude.{ℕ, Result, Ok, Err}
 use Rattle.pattern.specs.Checks.Finding.{Check, passes, refuses}
 use Rattle.model_file.specs.declared.refusal.ModelRefusal.{ModelRefusal}
-use Rattle.model_file.specs.declared.refusal.ModelCheck.{ModelCheck}
 
 -- the documents' number and place of each refusal of a model file
 abbrev pub refusal_number : ModelRefusal → ℕ
@@ -25,6 +24,6 @@ refusal_place (ModelRefusal.Order i) = i
 -- ---- laws
 
 -- the outcome of a check of a model file
-abbrev pub check_of : ModelCheck → Check
-check_of ModelCheck.Passed = passes
-check_of (ModelCheck.Refused refusal) = refuses (refusal_number refusal) (refusal_place refusal)
+abbrev pub check_of : Result Unit ModelRefusal → Check
+check_of (Ok u) = passes
+check_of (Err refusal) = refuses (refusal_number refusal) (refusal_place refusal)

@@ -3,7 +3,7 @@ ghost use Rattle.std.specs.Prelude.{◌≡◌};
 ghost use Rattle.model_file.specs.Enums.{refusal_number, refusal_place};
 
 // Document 01's refusals 10 to 14 and document 02's 28; those that have a place hold the record's number.
-#[derive(Clone, Copy)]
+#[derive(Clone, Copy, Debug, PartialEq, Eq)]
 pub enum ModelRefusal {
     Mark,
     Version,
@@ -14,7 +14,7 @@ pub enum ModelRefusal {
 }
 
 impl ModelRefusal {
-    // The documents' number of the refusal.
+    // The documents' number of the refusal, by cases as those of a pattern.
     pub fn number(self) -> u8
         ensures { result ≡ refusal_number self }
     {
@@ -33,19 +33,9 @@ impl ModelRefusal {
         ensures { result ≡ refusal_place self }
     {
         match self {
-            ModelRefusal::Mark => 0,
-            ModelRefusal::Version => 0,
-            ModelRefusal::Count => 0,
-            ModelRefusal::Name(j) => j as u16,
-            ModelRefusal::Edge(i) => i,
-            ModelRefusal::Order(i) => i,
+            ModelRefusal::Mark | ModelRefusal::Version | ModelRefusal::Count => 0,
+            ModelRefusal::Name(j) => u16::from(j),
+            ModelRefusal::Edge(i) | ModelRefusal::Order(i) => i,
         }
     }
-}
-
-// How a check came out.
-#[derive(Clone, Copy)]
-pub enum ModelCheck {
-    Passed,
-    Refused(ModelRefusal),
 }

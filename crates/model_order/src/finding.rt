@@ -6,14 +6,14 @@ use model_file::ModelRefusal;
 
 // The refusals: document 01's 10 to 14 of the old file, and document 02's 29, a destination that is
 // shorter than the new file.
-#[derive(Clone, Copy)]
+#[derive(Clone, Copy, Debug, PartialEq, Eq)]
 pub enum OrderRefusal {
     Model(ModelRefusal),
     Room,
 }
 
 impl OrderRefusal {
-    // The documents' number of the refusal.
+    // The documents' number of the refusal, by cases as those of a pattern.
     pub fn number(self) -> u8
         ensures { result ≡ refusal_number self }
     {
@@ -34,9 +34,15 @@ impl OrderRefusal {
     }
 }
 
-// The new file's length, or the first refusal.
-#[derive(Clone, Copy)]
-pub enum OrderFinding {
-    Written(u16),
-    Refused(OrderRefusal),
+impl From<ModelRefusal> for OrderRefusal {
+    ghost use Rattle.model_order.specs.declared.finding.OrderRefusal.{OrderRefusal};
+
+    ghost from_gives = { λ e r. r ≡ OrderRefusal.Model e };
+
+    fn from(refusal: ModelRefusal) -> OrderRefusal {
+        OrderRefusal::Model(refusal)
+    }
 }
+
+// The new file's length, or the first refusal.
+pub type OrderFinding = Result<u16, OrderRefusal>;

@@ -2,18 +2,34 @@
 // edges, written. The readers and writers are for files that are long enough.
 #![tactic(auto)]
 
-ghost use Rattle.std.specs.Prelude.{◌≡◌, [], ◌∷◌, ◌+◌, ◌≤◌, length};
+ghost use Rattle.std.specs.Prelude.{◌≡◌, ◌+◌, ◌≤◌, length};
 ghost use Rattle.wire.specs.Blocks.{put_from};
 ghost use Rattle.pattern.specs.File.Types.{max_property, max_channel};
-ghost use Rattle.model_records.specs.Layout.{node_count, name_count, edge_count, with_edge_count, node_record, name_record, edge_record, value_on, name_of, node_of_record, from_of, axis_of, to_of};
+ghost use Rattle.model_records.specs.Layout.{node_count, name_count, edge_count, with_edge_count, node_record, name_record, edge_record, value_on, name_of, node_of_record};
 ghost use Rattle.model_records.specs.Contents.{has_property};
+ghost use Rattle.model_records.specs.Order.{edge_at, edge_bytes};
 
 // How the edges of a model file must stand: in any order, as document 01 has it, or rising, as document
-// 02 has it.
+// 02 has it. It stays an enum, not a closure: the theorems of both documents name it (`judging_by`).
 #[derive(Clone, Copy)]
 pub enum Order {
     Any,
     Rising,
+}
+
+// A name and its node.
+#[derive(Clone, Copy)]
+pub struct NameRecord {
+    pub name: u8,
+    pub node: u8,
+}
+
+// An edge, compared as document 02 orders them: by from, then axis, then to.
+#[derive(Clone, Copy, PartialEq, Eq, PartialOrd, Ord)]
+pub struct Edge {
+    pub from: u8,
+    pub axis: u8,
+    pub to: u8,
 }
 
 // The count of the nodes.
@@ -82,49 +98,42 @@ pub fn value_on(d: &[u8], e: u8, u: u8) -> u16
     wire::word(d, node_record(u) + 4 + 2 * (e as usize))
 }
 
-// The name of name record j.
-pub fn name_of(d: &[u8], j: u8) -> u8
-    requires { name_record d.now j + 2 ≤ length d.now }
-    ensures { result ≡ name_of d.now j }
-{
-    let at = name_record(d, j);
-    d[at]
+impl NameRecord {
+    // The fields of name record j.
+    pub fn at(d: &[u8], j: u8) -> NameRecord
+        requires { name_record d.now j + 2 ≤ length d.now }
+        ensures name { result.name ≡ name_of d.now j }
+        ensures node { result.node ≡ node_of_record d.now j }
+    {
+        let at = name_record(d, j);
+        NameRecord {
+            name: d[at],
+            node: d[at + 1],
+        }
+    }
 }
 
-// The node of name record j.
-pub fn node_of_record(d: &[u8], j: u8) -> u8
-    requires { name_record d.now j + 2 ≤ length d.now }
-    ensures { result ≡ node_of_record d.now j }
-{
-    let at = name_record(d, j);
-    d[at + 1]
-}
+impl Edge {
+    // The fields of edge record i.
+    pub fn at(d: &[u8], i: u16) -> Edge
+        requires { edge_record d.now i + 3 ≤ length d.now }
+        ensures { result ≡ edge_at d.now i }
+    {
+        let at = edge_record(d, i);
+        Edge {
+            from: d[at],
+            axis: d[at + 1],
+            to: d[at + 2],
+        }
+    }
 
-// The node that edge record i leads from.
-pub fn edge_from(d: &[u8], i: u16) -> u8
-    requires { edge_record d.now i + 3 ≤ length d.now }
-    ensures { result ≡ from_of d.now i }
-{
-    let at = edge_record(d, i);
-    d[at]
-}
-
-// The axis of edge record i.
-pub fn edge_axis(d: &[u8], i: u16) -> u8
-    requires { edge_record d.now i + 3 ≤ length d.now }
-    ensures { result ≡ axis_of d.now i }
-{
-    let at = edge_record(d, i);
-    d[at + 1]
-}
-
-// The node that edge record i leads to.
-pub fn edge_to(d: &[u8], i: u16) -> u8
-    requires { edge_record d.now i + 3 ≤ length d.now }
-    ensures { result ≡ to_of d.now i }
-{
-    let at = edge_record(d, i);
-    d[at + 2]
+    // The edge record at this place becomes that of the edge.
+    pub fn put(self, d: &mut [u8], at: usize)
+        requires { at + 3 ≤ length d.old }
+        ensures { d.new ≡ put_from d.old at 0 (edge_bytes self) }
+    {
+        wire::copy_at(d, at, &[self.from, self.axis, self.to]);
+    }
 }
 
 // The count of the edge records becomes k.
@@ -133,12 +142,4 @@ pub fn put_edge_count(d: &mut [u8], k: u16)
     ensures { d.new ≡ with_edge_count d.old k }
 {
     wire::put_word(d, 7, k);
-}
-
-// The edge record at this place becomes that of an edge.
-pub fn put_edge(d: &mut [u8], at: usize, from: u8, axis: u8, to: u8)
-    requires { at + 3 ≤ length d.old }
-    ensures { d.new ≡ put_from d.old at 0 (from ∷ axis ∷ to ∷ []) }
-{
-    wire::copy_at(d, at, &[from, axis, to]);
 }

@@ -12,11 +12,11 @@ ghost use Rattle.model_tables.specs.Entries.{Grown, MadeBelow};
 ghost use Rattle.model_tables.specs.Tables.{PropertyMade, is_property, SuccessorsStay, NamesAtRecords};
 
 use crate::successors::fill_successors;
-use model_records::{has_property, name_count, name_of, node_count, node_of_record};
+use model_records::{NameRecord, has_property, name_count, node_count};
 use nodeset::NodeSet;
 use pattern::entry::Entry;
 use pattern::table::Kind;
-use relations::rows::{NAMES, NODES, PROPERTIES};
+use relations::rows::{NAMES, NODES, PROPERTIES, TABLE_BYTES};
 
 // The nodes that have property p.
 fn property_set(d: &[u8], p: u8) -> NodeSet
@@ -24,70 +24,52 @@ fn property_set(d: &[u8], p: u8) -> NodeSet
     requires p_le_max_property { p ≤ max_property }
     ensures { IsSet (model_from d.now) (λ u. has_property d.now p u.0 ≡ true) result }
 {
-    let n = node_count(d);
-    let mut set = NodeSet::empty();
-    let mut u = 0;
-    while u < n {
-        set = set.insert_if(u, has_property(d, p, u));
-        u += 1;
-    }
-    set
+    NodeSet::below(node_count(d)).filter(|u| has_property(d, p, u))
 }
 
 // The row of the property of an entry, if it has one, gets the nodes that have it.
-fn fill_property(d: &[u8], e: Entry, table: &mut [u8])
+fn fill_property(d: &[u8], e: Entry, table: &mut [u8; TABLE_BYTES])
     requires valid_model { ValidModel d.now }
     requires x_le_max_property { is_property e.kind ≡ true → e.x ≤ max_property }
-    requires model_rows_in_bounds { table_bytes model_rows ≤ length table.old }
     ensures grown { Grown (PropertyMade d.now) (is_property e.kind) e.x table.old table.new }
     ensures stay { SuccessorsStay table.old table.new }
 {
-    let kind = e.kind;
-    if !kind.is(Kind::Property) {
-        return;
+    if matches!(e.kind, Kind::Property) {
+        let set = property_set(d, e.x);
+        set.store(table, PROPERTIES + (e.x as usize));
     }
-    let set = property_set(d, e.x);
-    set.store(table, PROPERTIES + (e.x as usize));
 }
 
 // The row of each property that the pattern has gets the nodes that have it.
-fn fill_properties(p: &[u8], d: &[u8], table: &mut [u8])
+fn fill_properties(p: &[u8], d: &[u8], table: &mut [u8; TABLE_BYTES])
     requires p_value { reading_of p.now ≡ found (count_of p.now) }
     requires valid_model { ValidModel d.now }
-    requires model_rows_in_bounds { table_bytes model_rows ≤ length table.old }
     ensures made { MadeBelow (PropertyMade d.now) is_property p.now (count_of p.now) table.new }
     ensures stay { SuccessorsStay table.old table.new }
 {
-    let count = p[5];
-    let mut k = 0;
-    while k < count {
+    for k in 0..p[5] {
         fill_property(d, Entry::at(p, k), table);
-        k += 1;
     }
 }
 
 // The row of each listed name gets the node of its record.
-fn list_names(d: &[u8], table: &mut [u8])
+fn list_names(d: &[u8], table: &mut [u8; TABLE_BYTES])
     requires valid_model { ValidModel d.now }
-    requires model_rows_in_bounds { table_bytes model_rows ≤ length table.old }
     ensures { NamesAtRecords d.now table.old table.new }
 {
-    let m = name_count(d);
-    let mut j = 0;
-    while j < m {
-        let set = NodeSet::only(node_of_record(d, j));
-        set.store(table, NAMES + (name_of(d, j) as usize));
-        j += 1;
+    for j in 0..name_count(d) {
+        let record = NameRecord::at(d, j);
+        let set = NodeSet::only(record.node);
+        set.store(table, NAMES + (record.name as usize));
     }
 }
 
 // The table of the model that a file gives, for a pattern whose names the file lists; it is empty
 // before.
-pub fn tabulate(p: &[u8], d: &[u8], table: &mut [u8])
+pub fn tabulate(p: &[u8], d: &[u8], table: &mut [u8; TABLE_BYTES])
     requires p_value { reading_of p.now ≡ found (count_of p.now) }
     requires valid_model { ValidModel d.now }
     requires names_listed { NamesListed p.now d.now }
-    requires model_rows_in_bounds { table_bytes model_rows ≤ length table.old }
     requires by_index { (i u : ℕ) → has (set_at table.old i) u ≡ false }
     ensures { Tabled (model_from d.now) p.now table.new }
 {

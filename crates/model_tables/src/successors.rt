@@ -7,7 +7,7 @@ ghost use Rattle.model_records.specs.Layout.{edge_count};
 ghost use Rattle.model_records.specs.Valid.{ValidModel};
 ghost use Rattle.model_tables.specs.Successors.{link_of, Linked};
 
-use model_records::{edge_axis, edge_count, edge_from, edge_to};
+use model_records::{Edge, edge_count};
 use nodeset::NodeSet;
 use relations::rows::row_of;
 
@@ -18,10 +18,10 @@ fn add_edge(d: &[u8], table: &mut [u8], i: u16)
     requires i_bound { i < edge_count d.now }
     ensures { table.new ≡ link_of d.now i table.old }
 {
-    let axis = edge_axis(d, i);
-    let row = row_of(axis, edge_from(d, i));
+    let edge = Edge::at(d, i);
+    let row = row_of(edge.axis, edge.from);
     let set = NodeSet::load(table, row);
-    let grown = set.insert(edge_to(d, i));
+    let grown = set.insert(edge.to);
     grown.store(table, row);
 }
 
@@ -32,10 +32,7 @@ pub fn fill_successors(d: &[u8], table: &mut [u8])
     requires by_index { (i u : ℕ) → has (set_at table.old i) u ≡ false }
     ensures { Linked d.now (edge_count d.now) table.old table.new }
 {
-    let k = edge_count(d);
-    let mut i = 0;
-    while i < k {
+    for i in 0..edge_count(d) {
         add_edge(d, table, i);
-        i += 1;
     }
 }

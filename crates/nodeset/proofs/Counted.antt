@@ -2,7 +2,8 @@
 -- Assumes nothing.
 use mathlib.Core.Path.{◌≡◌, refl, sym, ap, ◌∙◌}
 use mathlib.Core.Bool.{Bool, true, false}
-use Prim.Native.Nat.{ℕ, ◌*◌, ◌%◌, ◌^◌, ◌<◌}
+use Prim.Native.Nat.{ℕ, ◌*◌, ◌%◌, ◌^◌, ◌≤◌, ◌<◌}
+use Rattle.std.proofs.Common.{arith}
 use native.Mathlib.Nat.{one-mul, mod-eq_of_lt}
 use borrow.Author.Tests.{eqb-true, eqb-false, eq-eqb, ne_eqb}
 use lib.Count.{ones, count_trailing_zeros}
@@ -33,3 +34,7 @@ zero_empty s h = go (eqb s.bits 0) refl ∙ ap (λ (n : ℕ). eqb n 0) (ones_siz
     go : (t : Bool) → eqb s.bits 0 ≡ t → t ≡ eqb (ones s.bits) 0
     go true e = sym (eq-eqb (ones s.bits) 0 (ap ones (eqb-true s.bits 0 e) ∙ none))
     go false e = sym (ne_eqb (ones s.bits) 0 (λ z. eqb-false s.bits 0 e (none_zero 64 s.bits h z)))
+
+-- a set with a node is not the word 0
+pub nonzero : (s : NodeSet) → s.bits < 2 ^ 64 → is_empty s ≡ false → 1 ≤ s.bits
+nonzero s h some = omega (arith, eqb-false s.bits 0 (zero_empty s h ∙ some))

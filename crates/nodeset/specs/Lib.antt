@@ -4,3 +4,4 @@ pub mod Bits
 pub mod Set
 pub mod Stored
 pub mod Members
+pub mod Filtered

@@ -1,12 +1,13 @@
 // Sets of nodes. Only this crate knows how a set is made of bits.
 #![tactic(auto)]
 
-ghost use Rattle.std.specs.Prelude.{◌≡◌, false, ◌+◌, ◌%◌, ◌≤◌, ◌<◌, length};
-ghost use Rattle.nodeset.specs.Set.{width, has, lowest_of, size_of, is_empty, empty_set, below, only, insert, insert_if, union, meet, minus, but_lowest, number_of, set_of};
-ghost use Rattle.nodeset.specs.Stored.{table_bytes, bytes_of, set_at, put};
+ghost use Rattle.std.specs.Prelude.{◌≡◌, true, false, MatchOption, ℕ, ◌+◌, ◌≤◌, ◌<◌, length};
+ghost use Rattle.nodeset.specs.Set.{width, has, lowest_of, size_of, is_empty, empty_set, below, only, insert, insert_if, union, meet, minus, but_lowest};
+ghost use Rattle.nodeset.specs.Filtered.{Filtered};
+ghost use Rattle.nodeset.specs.Stored.{table_bytes, set_at, put};
 
 // A set of the nodes below WIDTH: node u is in it where bit u is 1.
-#[derive(Clone, Copy)]
+#[derive(Clone, Copy, PartialEq, Eq)]
 pub struct NodeSet {
     bits: u64,
 }
@@ -18,6 +19,7 @@ impl NodeSet {
     // The bytes of a stored set.
     pub const BYTES: usize = 8;
 
+    #[tactic(auto, unfolding(crate::specs::Set::empty_set))]
     pub fn empty() -> NodeSet
         ensures { result ≡ empty_set }
     {
@@ -25,6 +27,7 @@ impl NodeSet {
     }
 
     // The nodes below n.
+    #[tactic(auto, using(crate::proofs::Counted::shifted), unfolding(crate::specs::Set::below))]
     pub fn below(n: u8) -> NodeSet
         requires { n ≤ width }
         ensures { result ≡ below n }
@@ -39,6 +42,7 @@ impl NodeSet {
     }
 
     // The node u alone.
+    #[tactic(auto, using(crate::proofs::Counted::shifted), unfolding(crate::specs::Set::only))]
     pub fn only(u: u8) -> NodeSet
         requires { u < width }
         ensures { result ≡ only u }
@@ -46,6 +50,7 @@ impl NodeSet {
         NodeSet { bits: 1u64 << u }
     }
 
+    #[tactic(auto, using(crate::specs::Set::on_has_law))]
     pub fn has(self, u: u8) -> bool
         requires { u < width }
         ensures { result ≡ has self u }
@@ -53,6 +58,7 @@ impl NodeSet {
         (self.bits >> u) % 2 == 1
     }
 
+    #[tactic(auto, using(crate::proofs::Counted::shifted), unfolding(crate::specs::Set::insert))]
     pub fn insert(self, u: u8) -> NodeSet
         requires { u < width }
         ensures { result ≡ insert self u }
@@ -73,6 +79,7 @@ impl NodeSet {
         self
     }
 
+    #[tactic(auto, unfolding(crate::specs::Set::union))]
     pub fn union(self, other: NodeSet) -> NodeSet
         ensures { result ≡ union self other }
     {
@@ -81,6 +88,7 @@ impl NodeSet {
         }
     }
 
+    #[tactic(auto, unfolding(crate::specs::Set::meet))]
     pub fn meet(self, other: NodeSet) -> NodeSet
         ensures { result ≡ meet self other }
     {
@@ -89,6 +97,7 @@ impl NodeSet {
         }
     }
 
+    #[tactic(auto, unfolding(crate::specs::Set::minus))]
     pub fn minus(self, other: NodeSet) -> NodeSet
         ensures { result ≡ minus self other }
     {
@@ -97,20 +106,26 @@ impl NodeSet {
         }
     }
 
+    #[tactic(auto, using(crate::proofs::Counted::zero_empty))]
     pub fn is_empty(self) -> bool
         ensures { result ≡ is_empty self }
     {
         self.bits == 0
     }
 
-    // The lowest node, WIDTH if there is none.
-    pub fn lowest(self) -> u8
-        ensures { result ≡ lowest_of self }
+    // The lowest node.
+    #[tactic(auto, using(crate::proofs::Counted::zeros_least))]
+    pub fn lowest(self) -> Option<u8>
+        ensures { MatchOption result (is_empty self ≡ true) (λ u. (is_empty self ≡ false) × (u ≡ lowest_of self)) }
     {
-        u64::trailing_zeros(self.bits) as u8
+        if self.is_empty() {
+            return None;
+        }
+        Some(self.bits.trailing_zeros() as u8)
     }
 
     // The set without its lowest node.
+    #[tactic(auto, using(crate::proofs::Counted::nonzero), unfolding(crate::specs::Set::but_lowest))]
     pub fn but_lowest(self) -> NodeSet
         requires { is_empty self ≡ false }
         ensures { result ≡ but_lowest self }
@@ -120,66 +135,69 @@ impl NodeSet {
         }
     }
 
+    // The nodes of the set that pass a test. Here and above, the members of a set are met by a `while let`: an
+    // iterator would want a type of its own and the law that it ends, to save a line in each of four loops.
+    pub fn filter<P: Fn(u8) -> bool>(self, test: P) -> NodeSet
+        requires { (u : ℕ) → has self u ≡ true → P.pre test u }
+        ensures { Filtered (P.post test) self result }
+    {
+        let mut rest = self;
+        let mut kept = NodeSet::empty();
+        while let Some(u) = rest.lowest() {
+            kept = kept.insert_if(u, test(u));
+            rest = rest.but_lowest();
+        }
+        kept
+    }
+
+    #[tactic(auto, using(crate::proofs::Counted::ones_size))]
     pub fn count(self) -> u8
         ensures { result ≡ size_of self }
     {
-        u64::count_ones(self.bits) as u8
-    }
-
-    // The set as one number, for those who pass sets on where only numbers can be passed.
-    pub fn number(self) -> u64
-        ensures { result ≡ number_of self }
-    {
-        self.bits
-    }
-
-    // The set of a number: that of a set's number is the set.
-    pub fn of_number(number: u64) -> NodeSet
-        ensures { result ≡ set_of number }
-    {
-        NodeSet { bits: number }
+        self.bits.count_ones() as u8
     }
 
     // Set i of a table.
+    #[tactic(auto, unfolding(crate::specs::Stored::set_at))]
     pub fn load(table: &[u8], i: usize) -> NodeSet
         requires { table_bytes (i + 1) ≤ length table.now }
         ensures { result ≡ set_at table.now i }
     {
-        let at = Self::BYTES * i;
         NodeSet {
-            bits: wire::word64(table, at),
+            bits: wire::word64(table, Self::BYTES * i),
         }
     }
 
     // Set i of a table becomes this one.
+    #[tactic(auto, unfolding(crate::specs::Stored::put))]
     pub fn store(self, table: &mut [u8], i: usize)
         requires { table_bytes (i + 1) ≤ length table.old }
         ensures { table.new ≡ put table.old i self }
     {
-        wire::put_block(table, i, self.bytes());
-    }
-
-    // The eight bytes of a set, the lowest first.
-    fn bytes(self) -> [u8; 8]
-        ensures { result ≡ bytes_of self.bits }
-    {
-        let bits = self.bits;
-        [
-            low(bits),
-            low(bits / 256),
-            low(bits / 65536),
-            low(bits / 16777216),
-            low(bits / 4294967296),
-            low(bits / 1099511627776),
-            low(bits / 281474976710656),
-            low(bits / 72057594037927936),
-        ]
+        wire::put_block(table, i, self.bits.to_le_bytes());
     }
 }
 
-// The lowest byte of a number.
-fn low(number: u64) -> u8
-    ensures { result ≡ number % 256 }
-{
-    (number % 256) as u8
+// The number of a set.
+impl From<NodeSet> for u64 {
+    ghost use Rattle.nodeset.specs.Set.{number_of};
+
+    ghost from_gives = { λ s n. n ≡ number_of s };
+
+    #[tactic(auto, unfolding(crate::specs::Set::number_of))]
+    fn from(set: NodeSet) -> u64 {
+        set.bits
+    }
+}
+
+// The set of a number: that of the number of a set is the set.
+impl From<u64> for NodeSet {
+    ghost use Rattle.nodeset.specs.Set.{set_of};
+
+    ghost from_gives = { λ n s. s ≡ set_of n };
+
+    #[tactic(auto, unfolding(crate::specs::Set::set_of))]
+    fn from(number: u64) -> NodeSet {
+        NodeSet { bits: number }
+    }
 }

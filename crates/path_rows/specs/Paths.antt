@@ -1,7 +1,7 @@
 -- The rows of a path: for each node a set, the ends of the path from that node. The rows of a path follow by the clause of its kind from
 -- those of the paths that it goes on by.
 -- Assumes nothing.
-use Rattle.std.specs.Prelude.{◌≡◌, true, ◌⊎◌, ◌↔◌, List, ℕ, ◌+◌, ◌-◌, ◌≤◌, ◌<◌, length}
+use Rattle.std.specs.Prelude.{◌≡◌, true, Option, Some, None, ◌⊎◌, ◌↔◌, List, ℕ, ◌+◌, ◌-◌, ◌≤◌, ◌<◌, length}
 use Rattle.std.proofs.Common.{sym, subst, inl, inr, lt_of_lt_of_le}
 use Rattle.nodeset.specs.declared.NodeSet.{NodeSet}
 use Rattle.nodeset.specs.Set.{width, has}
@@ -22,23 +22,23 @@ abbrev pub Apart : ℕ → ℕ → ℕ → Type 0
 Apart n first at = (u v : ℕ) → u < n → v < n → first + u ≡ at + v → ⊥
 
 -- a number as the kind's first field has it: an axis of a step, a name of a jump
-abbrev pub InRange : PathKind → ℕ → Type 0
-InRange PathKind.Step x = x ≤ max_axis
-InRange PathKind.Jump x = x ≤ max_name
-InRange PathKind.Test x = Unit {0}
-InRange PathKind.Fork x = Unit {0}
-InRange PathKind.NoPath x = Unit {0}
+abbrev pub InRange : Option PathKind → ℕ → Type 0
+InRange (Some PathKind.Step) x = x ≤ max_axis
+InRange (Some PathKind.Jump) x = x ≤ max_name
+InRange (Some PathKind.Test) x = Unit {0}
+InRange (Some PathKind.Fork) x = Unit {0}
+InRange None x = Unit {0}
 
 -- the nodes whose rows a step or a jump asks for are below n
-abbrev pub Bounded : PathKind → List ℕ → ℕ → ℕ → Type 0
-Bounded PathKind.Step table n x = (u v : ℕ) → u < n → has (set_at table (successors_row x u)) v ≡ true → v < n
-Bounded PathKind.Jump table n x = (v : ℕ) → has (set_at table (name_row x)) v ≡ true → v < n
-Bounded PathKind.Test table n x = Unit {0}
-Bounded PathKind.Fork table n x = Unit {0}
-Bounded PathKind.NoPath table n x = Unit {0}
+abbrev pub Bounded : Option PathKind → List ℕ → ℕ → ℕ → Type 0
+Bounded (Some PathKind.Step) table n x = (u v : ℕ) → u < n → has (set_at table (successors_row x u)) v ≡ true → v < n
+Bounded (Some PathKind.Jump) table n x = (v : ℕ) → has (set_at table (name_row x)) v ≡ true → v < n
+Bounded (Some PathKind.Test) table n x = Unit {0}
+Bounded (Some PathKind.Fork) table n x = Unit {0}
+Bounded None table n x = Unit {0}
 
 -- what the rows of a path are made from
-pub record Parts (table rows : List ℕ) (n : ℕ) (kind : PathKind) (x first second : ℕ) : Type 0 where
+pub record Parts (table rows : List ℕ) (n : ℕ) (kind : Option PathKind) (x first second : ℕ) : Type 0 where
   pub table_long : table_bytes model_rows ≤ length table
   pub narrow : n ≤ width
   pub within_ranges : InRange kind x
@@ -56,13 +56,13 @@ StepRow table rows x second u = Image (λ w. set_at rows (second + w)) (set_at t
 
 -- node v is in the row of node u, by the clause of the kind: of a step the union of the rows of u's successors, of a jump the row of the
 -- named node, of a test the row of u if the test holds there, of a fork both rows of u
-abbrev pub RowBy : PathKind → (table rows : List ℕ) → ℕ → NodeSet → ℕ → ℕ → ℕ → ℕ → Type 0
-RowBy PathKind.Step table rows x held first second u v = StepRow table rows x second u v
-RowBy PathKind.Jump table rows x held first second u v = Image (λ w. set_at rows (second + w)) (set_at table (name_row x)) v
-RowBy PathKind.Test table rows x held first second u v = (has held u ≡ true) × (has (set_at rows (second + u)) v ≡ true)
-RowBy PathKind.Fork table rows x held first second u v =
+abbrev pub RowBy : Option PathKind → (table rows : List ℕ) → ℕ → NodeSet → ℕ → ℕ → ℕ → ℕ → Type 0
+RowBy (Some PathKind.Step) table rows x held first second u v = StepRow table rows x second u v
+RowBy (Some PathKind.Jump) table rows x held first second u v = Image (λ w. set_at rows (second + w)) (set_at table (name_row x)) v
+RowBy (Some PathKind.Test) table rows x held first second u v = (has held u ≡ true) × (has (set_at rows (second + u)) v ≡ true)
+RowBy (Some PathKind.Fork) table rows x held first second u v =
     (has (set_at rows (first + u)) v ≡ true) ⊎ (has (set_at rows (second + u)) v ≡ true)
-RowBy PathKind.NoPath table rows x held first second u v = ⊥
+RowBy None table rows x held first second u v = ⊥
 
 -- the rows of the nodes before u are there from `at` on, and filled with the numbers with Q
 abbrev pub FilledBelow : (ℕ → ℕ → Type 0) → List ℕ → ℕ → ℕ → Type 0
@@ -87,7 +87,7 @@ pub covers_kept : (n first : ℕ) (all : NodeSet) (rows rows' : List ℕ) → ((
 covers_kept n first all rows rows' same covers u v l h = covers u v l (subst (λ (s : NodeSet). has s v ≡ true) (same u l) h)
 
 -- what rows are made from is there in other rows of the same length
-pub parts_kept : (table rows rows' : List ℕ) (n : ℕ) (kind : PathKind) (x first second : ℕ) → length rows' ≡ length rows
+pub parts_kept : (table rows rows' : List ℕ) (n : ℕ) (kind : Option PathKind) (x first second : ℕ) → length rows' ≡ length rows
     → Parts table rows n kind x first second → Parts table rows' n kind x first second
 parts_kept table rows rows' n kind x first second e p =
     record {
@@ -101,19 +101,19 @@ parts_kept table rows rows' n kind x first second e p =
 
 module _ (table : List ℕ) (n x : ℕ) (held : NodeSet) (first second : ℕ) where
   -- other rows that are the same from `first` and from `second` on give the same
-  row_kept : (kind : PathKind) → Bounded kind table n x → (rows rows' : List ℕ)
+  row_kept : (kind : Option PathKind) → Bounded kind table n x → (rows rows' : List ℕ)
       → ((u : ℕ) → u < n → set_at rows' (first + u) ≡ set_at rows (first + u)) → ((u : ℕ) → u < n → set_at rows' (second + u) ≡ set_at rows (second + u))
       → (u : ℕ) → u < n → (v : ℕ) → RowBy kind table rows' x held first second u v → RowBy kind table rows x held first second u v
-  row_kept PathKind.Step bounded rows rows' α β u l v (w, (m, h)) =
+  row_kept (Some PathKind.Step) bounded rows rows' α β u l v (w, (m, h)) =
       (w, (m, subst (λ (s : NodeSet). has s v ≡ true) (β w (bounded u w l m)) h))
-  row_kept PathKind.Jump bounded rows rows' α β u l v (w, (m, h)) =
+  row_kept (Some PathKind.Jump) bounded rows rows' α β u l v (w, (m, h)) =
       (w, (m, subst (λ (s : NodeSet). has s v ≡ true) (β w (bounded w m)) h))
-  row_kept PathKind.Test bounded rows rows' α β u l v (m, h) = (m, subst (λ (s : NodeSet). has s v ≡ true) (β u l) h)
-  row_kept PathKind.Fork bounded rows rows' α β u l v (inl h) = inl (subst (λ (s : NodeSet). has s v ≡ true) (α u l) h)
-  row_kept PathKind.Fork bounded rows rows' α β u l v (inr h) = inr (subst (λ (s : NodeSet). has s v ≡ true) (β u l) h)
-  row_kept PathKind.NoPath bounded rows rows' α β u l v h = h
+  row_kept (Some PathKind.Test) bounded rows rows' α β u l v (m, h) = (m, subst (λ (s : NodeSet). has s v ≡ true) (β u l) h)
+  row_kept (Some PathKind.Fork) bounded rows rows' α β u l v (inl h) = inl (subst (λ (s : NodeSet). has s v ≡ true) (α u l) h)
+  row_kept (Some PathKind.Fork) bounded rows rows' α β u l v (inr h) = inr (subst (λ (s : NodeSet). has s v ≡ true) (β u l) h)
+  row_kept None bounded rows rows' α β u l v h = h
 
-  pub rows_same : (kind : PathKind) → Bounded kind table n x → (rows rows' : List ℕ)
+  pub rows_same : (kind : Option PathKind) → Bounded kind table n x → (rows rows' : List ℕ)
       → ((u : ℕ) → u < n → set_at rows' (first + u) ≡ set_at rows (first + u)) → ((u : ℕ) → u < n → set_at rows' (second + u) ≡ set_at rows (second + u))
       → (u : ℕ) → u < n → (s : NodeSet)
       → HasExactly (RowBy kind table rows' x held first second u) s ↔ HasExactly (RowBy kind table rows x held first second u) s

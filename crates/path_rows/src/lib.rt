@@ -14,24 +14,22 @@ ghost use Rattle.path_rows.specs.Paths.{Apart, Parts, LeadsAlike, StepRow, RowBy
 
 use nodeset::NodeSet;
 use pattern::types::Comparison;
+use relations::fill::fill;
 use relations::kinds::PathKind;
 use relations::model::{successors, union_within, with_name};
 use relations::values::some_pair;
 
 // A set that has all nodes of the n rows from `first` on: of a step, whose rows are unions, no more than
 // those, and of the others every node.
-fn reach(rows: &[u8], n: u8, kind: PathKind, first: usize) -> NodeSet
+fn reach(rows: &[u8], n: u8, kind: Option<PathKind>, first: usize) -> NodeSet
     requires { (n ≤ width) × RowsFit rows.now n first }
     ensures { Covers rows.now n first result }
 {
     let every = NodeSet::below(NodeSet::WIDTH);
-    match kind {
-        PathKind::Step => union_within(rows, first, NodeSet::below(n), every),
-        PathKind::Jump => every,
-        PathKind::Test => every,
-        PathKind::Fork => every,
-        PathKind::NoPath => every,
+    if matches!(kind, Some(PathKind::Step)) {
+        return union_within(rows, first, NodeSet::below(n), every);
     }
+    every
 }
 
 // Whether node u has the successors on an axis of the node before it.
@@ -43,7 +41,7 @@ fn leads_alike(table: &[u8], axis: u8, u: u8) -> bool
     if u == 0 {
         return false;
     }
-    successors(table, axis, u).number() == successors(table, axis, u - 1).number()
+    successors(table, axis, u) == successors(table, axis, u - 1)
 }
 
 // The row of node u for a step: that of the node before it, if it has the successors of that node, else
@@ -74,7 +72,7 @@ fn step_row(
 fn clause_row(
     table: &[u8],
     rows: &[u8],
-    kind: PathKind,
+    kind: Option<PathKind>,
     x: u8,
     held: NodeSet,
     first: usize,
@@ -91,19 +89,19 @@ fn clause_row(
     ensures { HasExactly (RowBy kind table.now rows.now x held first second u) result }
 {
     match kind {
-        PathKind::Step => step_row(table, rows, x, second, all, at, u),
-        PathKind::Jump => union_within(rows, second, with_name(table, x), all),
-        PathKind::Test => {
+        Some(PathKind::Step) => step_row(table, rows, x, second, all, at, u),
+        Some(PathKind::Jump) => union_within(rows, second, with_name(table, x), all),
+        Some(PathKind::Test) => {
             if held.has(u) {
                 return NodeSet::load(rows, second + (u as usize));
             }
             NodeSet::empty()
         }
-        PathKind::Fork => {
+        Some(PathKind::Fork) => {
             let s = NodeSet::load(rows, first + (u as usize));
             s.union(NodeSet::load(rows, second + (u as usize)))
         }
-        PathKind::NoPath => NodeSet::empty(),
+        None => NodeSet::empty(),
     }
 }
 
@@ -112,7 +110,7 @@ pub fn fill_rows(
     table: &[u8],
     rows: &mut [u8],
     n: u8,
-    kind: PathKind,
+    kind: Option<PathKind>,
     x: u8,
     held: NodeSet,
     first: usize,
@@ -125,12 +123,12 @@ pub fn fill_rows(
     ensures { Filled (λ u. at + u) (RowBy kind table.now rows.old x held first second) n rows.old rows.new }
 {
     let all = reach(rows, n, kind, second);
-    let mut u = 0;
-    while u < n {
-        let s = clause_row(table, rows, kind, x, held, first, second, all, at, n, u);
-        s.store(rows, at + (u as usize));
-        u += 1;
-    }
+    fill(
+        rows,
+        at,
+        n,
+        |rows, u| clause_row(table, rows, kind, x, held, first, second, all, at, n, u),
+    );
 }
 
 // The n rows of the end of path, which leads from each node to itself.
@@ -138,11 +136,7 @@ pub fn fill_end(rows: &mut [u8], n: u8)
     requires { (n ≤ width) × RowsFit rows.old n 0 }
     ensures { Filled (λ u. u) (λ u v. v ≡ u) n rows.old rows.new }
 {
-    let mut u = 0;
-    while u < n {
-        NodeSet::only(u).store(rows, u as usize);
-        u += 1;
-    }
+    fill(rows, 0, n, |_, u| NodeSet::only(u));
 }
 
 // The nodes below n from which some end of the one path and some end of the other compare so on a
@@ -160,13 +154,9 @@ pub fn compare_rows(
     requires rows_fit { RowsFit rows.now n first × RowsFit rows.now n second }
     ensures { RowsCompared alike.now rows.now n channel c first second result }
 {
-    let mut found = NodeSet::empty();
-    let mut u = 0;
-    while u < n {
+    NodeSet::below(n).filter(|u| {
         let s = NodeSet::load(rows, first + (u as usize));
         let t = NodeSet::load(rows, second + (u as usize));
-        found = found.insert_if(u, some_pair(alike, channel, c, s, t));
-        u += 1;
-    }
-    found
+        some_pair(alike, channel, c, s, t)
+    })
 }

@@ -5,7 +5,7 @@ ghost use Rattle.pattern.specs.File.Reading.{sort_at};
 
 use crate::table::{Kind, Sort};
 
-#[derive(Clone, Copy)]
+#[derive(Clone, Copy, PartialEq, Eq)]
 pub struct Entry {
     pub kind: Kind,
     pub x: u8,
@@ -21,7 +21,7 @@ impl Entry {
     {
         let at = 6 + 4 * (k as usize);
         Entry {
-            kind: Kind::of(p[at]),
+            kind: Kind::from(p[at]),
             x: p[at + 1],
             y: p[at + 2],
             z: p[at + 3],
@@ -34,7 +34,5 @@ pub fn sort_at(p: &[u8], k: u8) -> Sort
     requires { HasEntry p.now k }
     ensures { result ≡ sort_at p.now k }
 {
-    let e = Entry::at(p, k);
-    let kind = e.kind;
-    kind.sort()
+    Entry::at(p, k).kind.sort()
 }

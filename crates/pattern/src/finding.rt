@@ -1,9 +1,9 @@
-// What reading a pattern finds.
+// The refusals of reading a pattern.
 ghost use Rattle.std.specs.Prelude.{◌≡◌};
 ghost use Rattle.pattern.specs.File.Reading.{refusal_number, refusal_place};
 
 // Document 01's refusals 1 to 8; those that have a place hold the entry's number.
-#[derive(Clone, Copy)]
+#[derive(Clone, Copy, Debug, PartialEq, Eq)]
 pub enum PatternRefusal {
     Mark,
     Version,
@@ -15,6 +15,8 @@ pub enum PatternRefusal {
     RootPath(u8),
 }
 
+// The documents number the refusals themselves, here and in the crates above: no order of variants gives the
+// numbers, and a trait of number and place would be longer than the two functions.
 impl PatternRefusal {
     // Document 01's number of the refusal.
     pub fn number(self) -> u8
@@ -37,21 +39,12 @@ impl PatternRefusal {
         ensures { result ≡ refusal_place self }
     {
         match self {
-            PatternRefusal::Mark => 0,
-            PatternRefusal::Version => 0,
-            PatternRefusal::Count => 0,
-            PatternRefusal::Kind(k) => k,
-            PatternRefusal::Field(k) => k,
-            PatternRefusal::Reference(k) => k,
-            PatternRefusal::Repeat(k) => k,
-            PatternRefusal::RootPath(k) => k,
+            PatternRefusal::Mark | PatternRefusal::Version | PatternRefusal::Count => 0,
+            PatternRefusal::Kind(k)
+            | PatternRefusal::Field(k)
+            | PatternRefusal::Reference(k)
+            | PatternRefusal::Repeat(k)
+            | PatternRefusal::RootPath(k) => k,
         }
     }
-}
-
-// What reading a pattern finds: its number of entries, or the first refusal.
-#[derive(Clone, Copy)]
-pub enum PatternRead {
-    Read(u8),
-    Refused(PatternRefusal),
 }

@@ -8,8 +8,5 @@ use crate::table::Kind;
 pub fn bears_name(kind: Kind) -> bool
     ensures { result ≡ bears_name kind }
 {
-    if kind.is(Kind::Name) {
-        return true;
-    }
-    kind.is(Kind::Jump)
+    kind == Kind::Name || kind == Kind::Jump
 }

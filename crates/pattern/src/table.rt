@@ -1,12 +1,12 @@
 // Document 01's table of entries, with the kind that document 02's Job 6 adds: the kinds, which of them
 // are nodes and which are paths, and what the three fields of each hold.
 ghost use Rattle.std.specs.Prelude.{◌≡◌};
-ghost use Rattle.pattern.specs.File.Table.{kind_of, kind_number, same_kind, sort_of, form_of, is_node, is_path, is_neither};
+ghost use Rattle.pattern.specs.File.Table.{sort_of, form_of, is_node, is_path};
 
 // The documents' kinds, in their words. In the words of the sources: `After` is the modal diamond, `Same`
 // and `Differ` are the data comparisons, `Jump` goes to a named node, `Fork` is the union of paths,
 // and each path kind carries the rest of its path. `Either` is a node, and the disjunction of two.
-#[derive(Clone, Copy)]
+#[derive(Clone, Copy, PartialEq, Eq)]
 pub enum Kind {
     Property,
     Name,
@@ -20,12 +20,14 @@ pub enum Kind {
     Test,
     Fork,
     Either,
+    // Of a number that the table lacks. A kind as an Option would put a test before each row of the table, and
+    // refusal 4 asks the sort alone.
     Unknown,
 }
 
 // Document 01's sorts of entries: nodes, which hold at a node or not, and paths, which lead from a node
 // to others.
-#[derive(Clone, Copy)]
+#[derive(Clone, Copy, PartialEq, Eq)]
 pub enum Sort {
     Node,
     Path,
@@ -33,7 +35,7 @@ pub enum Sort {
 }
 
 // What a field holds: one of the numbers of `types`, or a reference to a node entry or to a path.
-#[derive(Clone, Copy)]
+#[derive(Clone, Copy, PartialEq, Eq)]
 pub enum Field {
     Unused,
     Property,
@@ -45,7 +47,7 @@ pub enum Field {
 }
 
 // What the fields x, y and z of a kind hold.
-#[derive(Clone, Copy)]
+#[derive(Clone, Copy, PartialEq, Eq)]
 pub struct Form {
     pub x: Field,
     pub y: Field,
@@ -55,10 +57,13 @@ pub struct Form {
 // The path reference that means end of path.
 pub const END: u8 = 255;
 
-impl Kind {
-    pub(crate) fn of(number: u8) -> Kind
-        ensures { result ≡ kind_of number }
-    {
+impl From<u8> for Kind {
+    ghost use Rattle.std.specs.Prelude.{◌≡◌};
+    ghost use Rattle.pattern.specs.File.Table.{kind_of};
+
+    ghost from_gives = { λ number kind. kind ≡ kind_of number };
+
+    fn from(number: u8) -> Kind {
         match number {
             1 => Kind::Property,
             2 => Kind::Name,
@@ -75,35 +80,9 @@ impl Kind {
             _ => Kind::Unknown,
         }
     }
+}
 
-    // The documents' number of the kind; 0 is of none.
-    fn number(self) -> u8
-        ensures { result ≡ kind_number self }
-    {
-        match self {
-            Kind::Property => 1,
-            Kind::Name => 2,
-            Kind::Not => 3,
-            Kind::Both => 4,
-            Kind::After => 5,
-            Kind::Same => 6,
-            Kind::Differ => 7,
-            Kind::Step => 8,
-            Kind::Jump => 9,
-            Kind::Test => 10,
-            Kind::Fork => 11,
-            Kind::Either => 12,
-            Kind::Unknown => 0,
-        }
-    }
-
-    // Whether it is the other kind.
-    pub fn is(self, other: Kind) -> bool
-        ensures { result ≡ same_kind self other }
-    {
-        self.number() == other.number()
-    }
-
+impl Kind {
     pub fn sort(self) -> Sort
         ensures { result ≡ sort_of self }
     {
@@ -149,31 +128,13 @@ impl Sort {
     pub fn is_node(self) -> bool
         ensures { result ≡ is_node self }
     {
-        match self {
-            Sort::Node => true,
-            Sort::Path => false,
-            Sort::Neither => false,
-        }
+        self == Sort::Node
     }
 
     pub fn is_path(self) -> bool
         ensures { result ≡ is_path self }
     {
-        match self {
-            Sort::Node => false,
-            Sort::Path => true,
-            Sort::Neither => false,
-        }
-    }
-
-    pub fn is_neither(self) -> bool
-        ensures { result ≡ is_neither self }
-    {
-        match self {
-            Sort::Node => false,
-            Sort::Path => false,
-            Sort::Neither => true,
-        }
+        self == Sort::Path
     }
 }
 

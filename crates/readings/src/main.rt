@@ -21,17 +21,10 @@ fn append(part: &[u8], path: &mut [u8], at: usize) -> usize
     requires { at ≤ length path.old }
     ensures { IsPrefixLen result path.new }
 {
-    let mut n = at;
-    let mut i = 0;
-    while i < part.len() {
-        if n >= path.len() {
-            break;
-        }
-        path[n] = part[i];
-        n += 1;
-        i += 1;
-    }
-    n
+    let n = part.len().min(path.len() - at);
+    let end = at + n;
+    path[at..end].copy_from_slice(&part[..n]);
+    end
 }
 
 // The name of a file of a sample: the sample's, and what is behind it.
@@ -40,13 +33,6 @@ fn name_of(name: &[u8], behind: &[u8], path: &mut [u8]) -> usize
 {
     let n = append(name, path, 0);
     append(behind, path, n)
-}
-
-// What a list names.
-#[derive(Clone, Copy)]
-enum Kind {
-    Folders,
-    Texts,
 }
 
 fn judge_folder<R: Files + Print>(rt: &R, folder: &[u8]) {
@@ -63,48 +49,21 @@ fn type_text<R: Files + Print>(rt: &R, name: &[u8]) {
     runner::typist::type_file(rt, &text[..n]);
 }
 
-fn sample<R: Files + Print>(rt: &R, name: &[u8], kind: Kind) {
-    let _ = rt.write_all(name);
-    let _ = rt.write_all(b": ");
-    match kind {
-        Kind::Folders => judge_folder(rt, name),
-        Kind::Texts => type_text(rt, name),
-    }
-}
-
-// The place of the first line's end from a place on: that of the byte 10, or the list's end.
-fn line_end(list: &[u8], from: usize) -> usize
-    requires { from ≤ length list.now }
-    ensures { (from ≤ result) × (result ≤ length list.now) }
+// Runs each sample of the list in a file, which has a name on each line.
+fn listed<R: Files + Print, F: Fn(&R, &[u8])>(rt: &R, path: &[u8], sample: F)
+    requires { F.IsAlwaysCallable sample }
 {
-    let mut i = from;
-    while i < list.len() {
-        if list[i] == 10 {
-            return i;
-        }
-        i += 1;
-    }
-    i
-}
-
-// Runs the samples of a list, a name on each line.
-fn samples<R: Files + Print>(rt: &R, list: &[u8], kind: Kind) {
-    let mut at = 0;
-    while at < list.len() {
-        let end = line_end(list, at);
-        sample(rt, &list[at..end], kind);
-        at = end + 1;
-    }
-}
-
-// Runs the samples of a list in a file.
-fn listed<R: Files + Print>(rt: &R, path: &[u8], kind: Kind) {
     let mut list = [0u8; LIST_BYTES];
     let n = runner::load(rt, path, &mut list);
-    samples(rt, &list[..n], kind);
+    for line in list[..n].split_inclusive(|&byte| byte == b'\n') {
+        let name = line.strip_suffix(b"\n").unwrap_or(line);
+        let _ = rt.write_all(name);
+        let _ = rt.write_all(b": ");
+        sample(rt, name);
+    }
 }
 
 fn main(rt: HostRuntime) {
-    listed(&rt, b"samples.txt", Kind::Folders);
-    listed(&rt, b"texts.txt", Kind::Texts);
+    listed(&rt, b"samples.txt", judge_folder);
+    listed(&rt, b"texts.txt", type_text);
 }

@@ -1,6 +1,6 @@
 -- The documents' kinds as evaluation tells them apart, and back.
 -- Assumes nothing.
-use Rattle.std.specs.Prelude.{◌≡◌, refl}
+use Rattle.std.specs.Prelude.{◌≡◌, refl, Option, Some, None}
 use Rattle.std.proofs.Common.{sym, subst}
 use Rattle.pattern.specs.declared.types.Comparison.{Comparison}
 use Rattle.pattern.specs.declared.table.Kind.{Kind}
@@ -9,35 +9,35 @@ use Rattle.pattern.specs.File.Table.{sort_of, path_no_node, neither_no_node, nei
 use Rattle.relations.specs.declared.kinds.NodeKind.{NodeKind}
 use Rattle.relations.specs.declared.kinds.PathKind.{PathKind}
 
-abbrev pub node_kind_of : Kind → NodeKind
-node_kind_of Kind.Property = NodeKind.Property
-node_kind_of Kind.Name = NodeKind.Name
-node_kind_of Kind.Not = NodeKind.Not
-node_kind_of Kind.Both = NodeKind.Both
-node_kind_of Kind.After = NodeKind.After
-node_kind_of Kind.Same = NodeKind.Compare Comparison.Same
-node_kind_of Kind.Differ = NodeKind.Compare Comparison.Differ
-node_kind_of Kind.Step = NodeKind.NoNode
-node_kind_of Kind.Jump = NodeKind.NoNode
-node_kind_of Kind.Test = NodeKind.NoNode
-node_kind_of Kind.Fork = NodeKind.NoNode
-node_kind_of Kind.Either = NodeKind.Either
-node_kind_of Kind.Unknown = NodeKind.NoNode
+abbrev pub node_kind_of : Kind → Option NodeKind
+node_kind_of Kind.Property = Some NodeKind.Property
+node_kind_of Kind.Name = Some NodeKind.Name
+node_kind_of Kind.Not = Some NodeKind.Not
+node_kind_of Kind.Both = Some NodeKind.Both
+node_kind_of Kind.After = Some NodeKind.After
+node_kind_of Kind.Same = Some (NodeKind.Compare Comparison.Same)
+node_kind_of Kind.Differ = Some (NodeKind.Compare Comparison.Differ)
+node_kind_of Kind.Step = None
+node_kind_of Kind.Jump = None
+node_kind_of Kind.Test = None
+node_kind_of Kind.Fork = None
+node_kind_of Kind.Either = Some NodeKind.Either
+node_kind_of Kind.Unknown = None
 
-abbrev pub path_kind_of : Kind → PathKind
-path_kind_of Kind.Step = PathKind.Step
-path_kind_of Kind.Jump = PathKind.Jump
-path_kind_of Kind.Test = PathKind.Test
-path_kind_of Kind.Fork = PathKind.Fork
-path_kind_of Kind.Property = PathKind.NoPath
-path_kind_of Kind.Name = PathKind.NoPath
-path_kind_of Kind.Not = PathKind.NoPath
-path_kind_of Kind.Both = PathKind.NoPath
-path_kind_of Kind.After = PathKind.NoPath
-path_kind_of Kind.Same = PathKind.NoPath
-path_kind_of Kind.Differ = PathKind.NoPath
-path_kind_of Kind.Either = PathKind.NoPath
-path_kind_of Kind.Unknown = PathKind.NoPath
+abbrev pub path_kind_of : Kind → Option PathKind
+path_kind_of Kind.Step = Some PathKind.Step
+path_kind_of Kind.Jump = Some PathKind.Jump
+path_kind_of Kind.Test = Some PathKind.Test
+path_kind_of Kind.Fork = Some PathKind.Fork
+path_kind_of Kind.Property = None
+path_kind_of Kind.Name = None
+path_kind_of Kind.Not = None
+path_kind_of Kind.Both = None
+path_kind_of Kind.After = None
+path_kind_of Kind.Same = None
+path_kind_of Kind.Differ = None
+path_kind_of Kind.Either = None
+path_kind_of Kind.Unknown = None
 
 -- the kind of a comparison
 abbrev pub comparison_kind : Comparison → Kind
@@ -45,22 +45,22 @@ comparison_kind Comparison.Same = Kind.Same
 comparison_kind Comparison.Differ = Kind.Differ
 
 -- what each says of the kind itself
-abbrev pub IsNodeKind : NodeKind → Kind → Type 0
-IsNodeKind NodeKind.Property κ = κ ≡ Kind.Property
-IsNodeKind NodeKind.Name κ = κ ≡ Kind.Name
-IsNodeKind NodeKind.Not κ = κ ≡ Kind.Not
-IsNodeKind NodeKind.Both κ = κ ≡ Kind.Both
-IsNodeKind NodeKind.Either κ = κ ≡ Kind.Either
-IsNodeKind NodeKind.After κ = κ ≡ Kind.After
-IsNodeKind (NodeKind.Compare c) κ = κ ≡ comparison_kind c
-IsNodeKind NodeKind.NoNode κ = sort_of κ ≡ Sort.Node → ⊥
+abbrev pub IsNodeKind : Option NodeKind → Kind → Type 0
+IsNodeKind (Some NodeKind.Property) κ = κ ≡ Kind.Property
+IsNodeKind (Some NodeKind.Name) κ = κ ≡ Kind.Name
+IsNodeKind (Some NodeKind.Not) κ = κ ≡ Kind.Not
+IsNodeKind (Some NodeKind.Both) κ = κ ≡ Kind.Both
+IsNodeKind (Some NodeKind.Either) κ = κ ≡ Kind.Either
+IsNodeKind (Some NodeKind.After) κ = κ ≡ Kind.After
+IsNodeKind (Some (NodeKind.Compare c)) κ = κ ≡ comparison_kind c
+IsNodeKind None κ = sort_of κ ≡ Sort.Node → ⊥
 
-abbrev pub IsPathKind : PathKind → Kind → Type 0
-IsPathKind PathKind.Step κ = κ ≡ Kind.Step
-IsPathKind PathKind.Jump κ = κ ≡ Kind.Jump
-IsPathKind PathKind.Test κ = κ ≡ Kind.Test
-IsPathKind PathKind.Fork κ = κ ≡ Kind.Fork
-IsPathKind PathKind.NoPath κ = sort_of κ ≡ Sort.Path → ⊥
+abbrev pub IsPathKind : Option PathKind → Kind → Type 0
+IsPathKind (Some PathKind.Step) κ = κ ≡ Kind.Step
+IsPathKind (Some PathKind.Jump) κ = κ ≡ Kind.Jump
+IsPathKind (Some PathKind.Test) κ = κ ≡ Kind.Test
+IsPathKind (Some PathKind.Fork) κ = κ ≡ Kind.Fork
+IsPathKind None κ = sort_of κ ≡ Sort.Path → ⊥
 
 -- ---- laws
 is_node_kind : (κ : Kind) → IsNodeKind (node_kind_of κ) κ
@@ -93,8 +93,8 @@ is_path_kind Kind.Fork = refl
 is_path_kind Kind.Either = λ e. path_no_node (sym e)
 is_path_kind Kind.Unknown = neither_no_path
 
-pub node_kind_is : (κ : Kind) (kind : NodeKind) → kind ≡ node_kind_of κ → IsNodeKind kind κ
-node_kind_is κ kind e = subst (λ (t : NodeKind). IsNodeKind t κ) (sym e) (is_node_kind κ)
+pub node_kind_is : (κ : Kind) (kind : Option NodeKind) → kind ≡ node_kind_of κ → IsNodeKind kind κ
+node_kind_is κ kind e = subst (λ (t : Option NodeKind). IsNodeKind t κ) (sym e) (is_node_kind κ)
 
-pub path_kind_is : (κ : Kind) (kind : PathKind) → kind ≡ path_kind_of κ → IsPathKind kind κ
-path_kind_is κ kind e = subst (λ (t : PathKind). IsPathKind t κ) (sym e) (is_path_kind κ)
+pub path_kind_is : (κ : Kind) (kind : Option PathKind) → kind ≡ path_kind_of κ → IsPathKind kind κ
+path_kind_is κ kind e = subst (λ (t : Option PathKind). IsPathKind t κ) (sym e) (is_path_kind κ)

@@ -29,8 +29,8 @@ abbrev pub Pair : List ℕ → ℕ → Comparison → NodeSet → NodeSet → Ty
 Pair alike e c s t = (v : ℕ) × ((has s v ≡ true) × Partner c (set_at alike (alike_row e v)) t)
 
 -- whether there is such a pair, in each model for which the rows of the channel stand
-abbrev pub PairFound : List ℕ → ℕ → Comparison → NodeSet → NodeSet → Bool → Type 0
-PairFound alike e c s t b = (F : Finite) → AlikeOn F alike e → Inside F s → (b ≡ true) ↔ Pair alike e c s t
+pub record PairFound (alike : List ℕ) (e : ℕ) (c : Comparison) (s t : NodeSet) (b : Bool) : Type 0 where
+  pub found : (F : Finite) → AlikeOn F alike e → Inside F s → (b ≡ true) ↔ Pair alike e c s t
 
 -- ---- laws
 -- nodes of one value have the same partners

@@ -1,4 +1,5 @@
-// The kinds of entries as evaluation tells them apart: node entries, and path entries.
+// The kinds of entries as evaluation tells them apart: node entries, and path entries. They are matched where
+// sets are made of them; as closures they would hide which sets an entry needs.
 ghost use Rattle.std.specs.Prelude.{◌≡◌};
 ghost use Rattle.relations.specs.Kinds.{node_kind_of, path_kind_of};
 
@@ -16,7 +17,6 @@ pub enum NodeKind {
     Either,
     After,
     Compare(Comparison),
-    NoNode,
 }
 
 #[derive(Clone, Copy)]
@@ -25,49 +25,34 @@ pub enum PathKind {
     Jump,
     Test,
     Fork,
-    NoPath,
 }
 
 // The kind of an entry as a node.
-pub fn node_kind(e: Entry) -> NodeKind
+pub fn node_kind(e: Entry) -> Option<NodeKind>
     ensures { result ≡ node_kind_of e.kind }
 {
-    let kind = e.kind;
-    match kind {
-        Kind::Property => NodeKind::Property,
-        Kind::Name => NodeKind::Name,
-        Kind::Not => NodeKind::Not,
-        Kind::Both => NodeKind::Both,
-        Kind::After => NodeKind::After,
-        Kind::Same => NodeKind::Compare(Comparison::Same),
-        Kind::Differ => NodeKind::Compare(Comparison::Differ),
-        Kind::Step => NodeKind::NoNode,
-        Kind::Jump => NodeKind::NoNode,
-        Kind::Test => NodeKind::NoNode,
-        Kind::Fork => NodeKind::NoNode,
-        Kind::Either => NodeKind::Either,
-        Kind::Unknown => NodeKind::NoNode,
+    match e.kind {
+        Kind::Property => Some(NodeKind::Property),
+        Kind::Name => Some(NodeKind::Name),
+        Kind::Not => Some(NodeKind::Not),
+        Kind::Both => Some(NodeKind::Both),
+        Kind::After => Some(NodeKind::After),
+        Kind::Same => Some(NodeKind::Compare(Comparison::Same)),
+        Kind::Differ => Some(NodeKind::Compare(Comparison::Differ)),
+        Kind::Either => Some(NodeKind::Either),
+        Kind::Step | Kind::Jump | Kind::Test | Kind::Fork | Kind::Unknown => None,
     }
 }
 
 // The kind of an entry as a path.
-pub fn path_kind(e: Entry) -> PathKind
+pub fn path_kind(e: Entry) -> Option<PathKind>
     ensures { result ≡ path_kind_of e.kind }
 {
-    let kind = e.kind;
-    match kind {
-        Kind::Step => PathKind::Step,
-        Kind::Jump => PathKind::Jump,
-        Kind::Test => PathKind::Test,
-        Kind::Fork => PathKind::Fork,
-        Kind::Property => PathKind::NoPath,
-        Kind::Name => PathKind::NoPath,
-        Kind::Not => PathKind::NoPath,
-        Kind::Both => PathKind::NoPath,
-        Kind::After => PathKind::NoPath,
-        Kind::Same => PathKind::NoPath,
-        Kind::Differ => PathKind::NoPath,
-        Kind::Either => PathKind::NoPath,
-        Kind::Unknown => PathKind::NoPath,
+    match e.kind {
+        Kind::Step => Some(PathKind::Step),
+        Kind::Jump => Some(PathKind::Jump),
+        Kind::Test => Some(PathKind::Test),
+        Kind::Fork => Some(PathKind::Fork),
+        _ => None,
     }
 }

@@ -2,6 +2,7 @@
 // relations of a model, and the values of its nodes.
 #![tactic(auto)]
 
+pub mod fill;
 pub mod kinds;
 pub mod model;
 pub mod rows;

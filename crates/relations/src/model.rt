@@ -20,6 +20,8 @@ pub fn successors(table: &[u8], axis: u8, u: u8) -> NodeSet
     NodeSet::load(table, row_of(axis, u))
 }
 
+// A function for each block of the table, whose rows differ in their range.
+
 // The nodes that have a property.
 pub fn with_property(table: &[u8], property: u8) -> NodeSet
     requires model_rows_in_bounds { table_bytes model_rows ≤ length table.now }
@@ -54,8 +56,7 @@ pub fn union_within(rows: &[u8], first: usize, s: NodeSet, all: NodeSet) -> Node
 {
     let mut rest = s;
     let mut sum = NodeSet::empty();
-    while !rest.is_empty() {
-        let u = rest.lowest();
+    while let Some(u) = rest.lowest() {
         sum = sum.union(NodeSet::load(rows, first + (u as usize)));
         if all.minus(sum).is_empty() {
             return sum;
@@ -80,12 +81,5 @@ pub fn before(table: &[u8], n: u8, axis: u8, s: NodeSet) -> NodeSet
     requires n_le_width { (n ≤ width) × (axis ≤ max_axis) }
     ensures { HasExactly (Before table.now n axis s) result }
 {
-    let mut found = NodeSet::empty();
-    let mut u = 0;
-    while u < n {
-        let leads = !successors(table, axis, u).meet(s).is_empty();
-        found = found.insert_if(u, leads);
-        u += 1;
-    }
-    found
+    NodeSet::below(n).filter(|u| !successors(table, axis, u).meet(s).is_empty())
 }

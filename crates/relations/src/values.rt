@@ -10,7 +10,7 @@ use crate::rows::row_of;
 use nodeset::NodeSet;
 use pattern::types::Comparison;
 
-// The nodes whose value on a channel is that of node u.
+// The nodes whose value on a channel is that of node u, in a table of its own with its own bounds.
 fn alike_to(alike: &[u8], channel: u8, u: u8) -> NodeSet
     requires alike_rows_in_bounds { table_bytes alike_rows ≤ length alike.now }
     requires channel_le_max_channel { (channel ≤ max_channel) × (u < width) }
@@ -51,8 +51,8 @@ pub fn some_pair(alike: &[u8], channel: u8, c: Comparison, s: NodeSet, t: NodeSe
         return true;
     }
     let mut rest = s;
-    while !rest.is_empty() {
-        let class = alike_to(alike, channel, rest.lowest());
+    while let Some(u) = rest.lowest() {
+        let class = alike_to(alike, channel, u);
         if has_partner(c, class, t) {
             return true;
         }

@@ -10,7 +10,8 @@ ghost use Rattle.pattern.specs.File.Entries.{offset, HasEntry, same_bytes};
 ghost use Rattle.pattern.specs.File.Reading.{repeats_at};
 ghost use Rattle.repeats.specs.Seen.{slot_of, slot_at, Seen};
 
-// How many slots there are: many more than entries, so that entries that differ seldom share one.
+// How many slots there are: many more than entries, so that entries that differ seldom share one. A slot
+// is a byte and not a bool, so that callers owe nothing for the unmarked ones: all but 0 count as marks.
 pub const SLOTS: usize = 2048;
 
 // The four bytes of entry k as one number.
@@ -18,11 +19,12 @@ fn entry_word(p: &[u8], k: u8) -> u32
     requires { HasEntry p.now k }
     ensures { result ≡ word32_at p.now (offset k) }
 {
-    let at = 6 + 4 * (k as usize);
-    wire::word32(p, at)
+    wire::word32(p, 6 + 4 * (k as usize))
 }
 
-// Whether entries j and k have the same four bytes.
+// Whether entries j and k have the same four bytes: compared as they lie in the file, since an `Entry` of each
+// would be made first.
+#[tactic(auto, using(crate::specs::Words::word_same))]
 fn same_entry(p: &[u8], j: u8, k: u8) -> bool
     requires has_entry { HasEntry p.now j }
     requires has_entry_2 { HasEntry p.now k }
@@ -33,22 +35,21 @@ fn same_entry(p: &[u8], j: u8, k: u8) -> bool
 
 // Whether entry k is equal to an earlier one. Every earlier one is compared, without a way out of the
 // loop, so that the compiler can compare many at once.
+#[tactic(auto, unfolding(pattern::specs::Checks::Range::some_below))]
 fn repeats(p: &[u8], k: u8) -> bool
     requires { HasEntry p.now k }
     ensures { result ≡ repeats_at p.now k }
 {
     let mut repeated = false;
-    let mut j = 0;
-    while j < k {
-        let same = same_entry(p, j, k);
-        repeated = repeated | same;
-        j += 1;
+    for j in 0..k {
+        repeated |= same_entry(p, j, k);
     }
     repeated
 }
 
 // The slot of an entry whose four bytes are w, by multiplicative hashing: bits 21 to 31 of the product
 // with a prime near 2 ^ 32 over the golden ratio, so that entries that are alike get slots far apart.
+#[tactic(auto, unfolding(crate::specs::Seen::slot_of))]
 fn slot_of(w: u32) -> usize
     ensures { result ≡ slot_of w }
 {
@@ -64,18 +65,17 @@ fn slot_at(p: &[u8], k: u8) -> usize
 }
 
 // Whether entry k is equal to an earlier one, where the slots of the earlier ones are marked.
+#[tactic(auto, using(crate::specs::Slots::slot_below, crate::specs::Slots::unseen))]
 pub fn repeats_seen(p: &[u8], k: u8, seen: &[u8; SLOTS]) -> bool
     requires has_entry { HasEntry p.now k }
     requires seen { Seen p.now k seen.now }
     ensures { result ≡ repeats_at p.now k }
 {
-    if seen[slot_at(p, k)] == 0 {
-        return false;
-    }
-    repeats(p, k)
+    seen[slot_at(p, k)] != 0 && repeats(p, k)
 }
 
 // Marks the slot of entry k.
+#[tactic(auto, using(crate::specs::Slots::slot_below))]
 pub fn mark(p: &[u8], k: u8, seen: &mut [u8; SLOTS])
     requires { HasEntry p.now k }
     ensures { seen.new ≡ set seen.old (slot_at p.now k) 1 }

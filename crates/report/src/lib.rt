@@ -23,9 +23,9 @@ fn model_report(finding: ModelFinding) -> Report
     ensures { result ≡ model_report (model-specs.finding_of finding) }
 {
     match finding {
-        ModelFinding::Met(lowest, number) => Report::Met(lowest, number),
-        ModelFinding::Unmet => Report::Unmet,
-        ModelFinding::Refused(refusal) => Report::Refused(refusal.number(), refusal.place()),
+        Ok(Some(met)) => Report::Met(met.lowest, met.number),
+        Ok(None) => Report::Unmet,
+        Err(refusal) => Report::Refused(refusal.number(), refusal.place()),
     }
 }
 
@@ -34,8 +34,8 @@ fn tableau_report(finding: TableauFinding) -> Report
     ensures { result ≡ tableau_report (tableau-specs.finding_of finding) }
 {
     match finding {
-        TableauFinding::Closed(c) => Report::Closed(c.steps, c.clashes, c.forks, c.most),
-        TableauFinding::Refused(refusal) => Report::Refused(refusal.number(), refusal.place()),
+        Ok(c) => Report::Closed(c.steps, c.clashes, c.forks, c.most),
+        Err(refusal) => Report::Refused(refusal.number(), refusal.place()),
     }
 }
 

@@ -25,8 +25,8 @@ fn type_report(finding: TypeFinding) -> Report
     ensures { result ≡ type_report (finding_of finding) }
 {
     match finding {
-        TypeFinding::Written(length) => Report::Written(length),
-        TypeFinding::Refused(refusal) => Report::Refused(refusal.number(), refusal.place()),
+        Ok(length) => Report::Written(length),
+        Err(refusal) => Report::Refused(refusal.number(), refusal.place()),
     }
 }
 
@@ -35,8 +35,8 @@ fn file_length(finding: TypeFinding) -> usize
     ensures { result ≡ length_found (finding_of finding) }
 {
     match finding {
-        TypeFinding::Written(length) => length as usize,
-        TypeFinding::Refused(_) => 0,
+        Ok(length) => length as usize,
+        Err(_) => 0,
     }
 }
 

@@ -1,8 +1,9 @@
 -- The working area of judging a model: a set for each node entry of the pattern.
 -- Assumes nothing.
-use Rattle.std.specs.Prelude.{◌≡◌, Bool, List, ℕ, ◌+◌, ◌≤◌, ◌<◌, length}
+use Rattle.std.specs.Prelude.{◌≡◌, Bool, true, false, List, ℕ, ◌+◌, ◌≤◌, ◌<◌, length}
 use Rattle.std.proofs.Math.Path.{refl}
 use Rattle.std.proofs.Common.{sym, ◌∙◌, ap, ap₂, arith}
+use Rattle.std.specs.Int.{from_bool}
 use Rattle.wire.specs.Choice.{pick}
 use Rattle.nodeset.specs.Below.{count_below, count_le, count_next, count_more, counts_differ}
 use Rattle.nodeset.specs.Stored.{table_bytes}
@@ -28,14 +29,18 @@ area_bytes bs = table_bytes (node_entries bs)
 abbrev pub place_of : List ℕ → ℕ → ℕ
 place_of bs k = count_below k (is_node_at bs)
 
+counted : (b : Bool) → from_bool b ≡ pick b 1 0
+counted true = refl
+counted false = refl
+
 module _ (bs : List ℕ) where
   pub place_first : place_of bs 0 ≡ 0
   unfolding count_below
   place_first = refl
 
   -- counted entry by entry
-  pub place_next : (k place one : ℕ) → place ≡ place_of bs k → one ≡ pick (is_node_at bs k) 1 0 → place + one ≡ place_of bs (k + 1)
-  place_next k place one a b = ap₂ (λ (x y : ℕ). x + y) a b ∙ sym (count_next k (is_node_at bs))
+  pub place_next : (k place one : ℕ) → place ≡ place_of bs k → one ≡ from_bool (is_node_at bs k) → place + one ≡ place_of bs (k + 1)
+  place_next k place one a b = ap₂ (λ (x y : ℕ). x + y) a (b ∙ counted (is_node_at bs k)) ∙ sym (count_next k (is_node_at bs))
 
   -- each set has room in an area that is long enough
   pub set_room : (area : List ℕ) → area_bytes bs ≤ length area → (k : ℕ) → k < count_of bs → sort_at bs k ≡ Sort.Node

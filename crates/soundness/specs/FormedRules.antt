@@ -1,6 +1,6 @@
 -- From lines that speak of a pattern's entries the rules conclude such lines.
 -- Assumes nothing.
-use Rattle.std.specs.Prelude.{◌≡◌, refl, List, [], ◌∷◌, ℕ, zero, suc}
+use Rattle.std.specs.Prelude.{◌≡◌, refl, List, [], ◌∷◌, ℕ, zero, suc, Option, Some}
 use Rattle.std.proofs.Common.{subst, inl}
 use Rattle.pattern.specs.declared.types.Name.{Name}
 use Rattle.pattern.specs.declared.types.Sign.{Sign}
@@ -16,7 +16,6 @@ use Rattle.lines.specs.declared.line.CompareLine.{CompareLine}
 use Rattle.lines.specs.declared.line.Line.{Line}
 use Rattle.steps.specs.declared.step.Step.{Step}
 use Rattle.rules.specs.declared.conclusion.Conclusion.{Conclusion}
-use Rattle.rules.specs.declared.conclusion.Outcome.{Outcome}
 use Rattle.rules.specs.declared.fit.Direction.{Direction}
 use Rattle.lines.specs.Lines.{has, leads, side, axis, line_on}
 use Rattle.lines.specs.Formed.{IsNode, Formed, AllFormed, formed_at}
@@ -49,10 +48,10 @@ fork f g = ((f, tt), ((g, tt), tt))
 
 module _ {bs : List ℕ} {n : ℕ} (ok : Valid bs n) where
   -- what is concluded is formed; what is concluded from P is formed where P is
-  abbrev Shown : Outcome → Type 0
+  abbrev Shown : Option Conclusion → Type 0
   Shown = WhereFits (FormedConclusion bs n)
 
-  abbrev From : Line → Outcome → Type 0
+  abbrev From : Line → Option Conclusion → Type 0
   From P o = Formed bs n P → Shown o
 
   module _ (h : HasLine) (f : IsNode bs n h.node) where
@@ -89,7 +88,7 @@ module _ {bs : List ℕ} {n : ℕ} (ok : Valid bs n) where
 
     formed7 : Shown (rule7 h node)
     formed7 =
-        otherwise_fits Shown tt node Kind.Same (Outcome.Fits (comparing h node Comparison.Same)) _
+        otherwise_fits Shown tt node Kind.Same (Some (comparing h node Comparison.Same)) _
         (λ κ. let r = node_refers Kind.Same κ in one (r.1, r.2))
         (kind_fits Shown tt node Kind.Differ _ (λ κ. let r = node_refers Kind.Differ κ in one (r.1, r.2)))
 
@@ -153,18 +152,18 @@ module _ {bs : List ℕ} {n : ℕ} (ok : Valid bs n) where
   replaced_formed (suc (suc a)) i Q j f = tt
 
   -- by the form of a line
-  by_has : (rule : HasLine → Entry → Outcome) → ((h : HasLine) → From (Line.Has h) (rule h (entry_at bs h.node))) → (P : Line)
+  by_has : (rule : HasLine → Entry → Option Conclusion) → ((h : HasLine) → From (Line.Has h) (rule h (entry_at bs h.node))) → (P : Line)
       → From P (on_node rule bs P)
   by_has = has_fits From (λ P f. tt) bs
 
-  by_is : (rule : IsLine → Outcome) → ((l : IsLine) → From (Line.Is l) (rule l)) → (P : Line) → From P (on_is rule P)
+  by_is : (rule : IsLine → Option Conclusion) → ((l : IsLine) → From (Line.Is l) (rule l)) → (P : Line) → From P (on_is rule P)
   by_is = is_fits From (λ P f. tt)
 
-  by_compare : (rule : CompareLine → Outcome) → ((l : CompareLine) → From (Line.Compare l) (rule l)) → (P : Line)
+  by_compare : (rule : CompareLine → Option Conclusion) → ((l : CompareLine) → From (Line.Compare l) (rule l)) → (P : Line)
       → From P (on_compare rule P)
   by_compare = compare_fits From (λ P f. tt)
 
-  by_left : (rule : CompareLine → Entry → Outcome)
+  by_left : (rule : CompareLine → Entry → Option Conclusion)
       → ((l : CompareLine) → (l.left.path ≡ end_of_path → ⊥) → From (Line.Compare l) (rule l (entry_at bs l.left.path))) → (P : Line)
       → From P (on_left rule bs P)
   by_left = left_fits From (λ P f. tt) bs

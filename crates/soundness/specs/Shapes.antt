@@ -1,6 +1,6 @@
 -- What a rule concludes has the sides that the table of the rules says.
 -- Assumes nothing.
-use Rattle.std.specs.Prelude.{◌≡◌, refl, Bool, List, [], ℕ, zero, suc, length}
+use Rattle.std.specs.Prelude.{◌≡◌, refl, Bool, List, [], ℕ, zero, suc, length, Option, Some, None}
 use Rattle.std.proofs.Common.{subst}
 use Rattle.pattern.specs.declared.types.Name.{Name}
 use Rattle.pattern.specs.declared.entry.Entry.{Entry}
@@ -12,7 +12,6 @@ use Rattle.lines.specs.declared.line.IsLine.{IsLine}
 use Rattle.lines.specs.declared.line.CompareLine.{CompareLine}
 use Rattle.lines.specs.declared.line.Line.{Line}
 use Rattle.rules.specs.declared.conclusion.Conclusion.{Conclusion}
-use Rattle.rules.specs.declared.conclusion.Outcome.{Outcome}
 use Rattle.rules.specs.declared.fit.Direction.{Direction}
 use Rattle.lines.specs.Lines.{name, line_on}
 use Rattle.rules.specs.Rules.{Rule, rule_at, only, when, comparing, new_name, far_end, arrival, arriving, replaced_first, replaced_second, replaced, on_is, on_compare, on_node, on_left, rule1, rule2, rule3, rule4, rule5, rule6, rule7, rule8, rule9, rule10, rule11, rule12, rule13, rule14, rule15, rule16, rule17, rule18, rule19, rule20, chained, rule21, rule22, clash_if, contrary, rule23, rule24, rule25}
@@ -23,57 +22,57 @@ use Rattle.steps.specs.declared.step.Step.{Step}
 use Rattle.steps.specs.Steps.{Follows, follows_fits}
 
 -- what is concluded has so many sides
-pub record Shaped (n : ℕ) (o : Outcome) : Type 0 where
+pub record Shaped (n : ℕ) (o : Option Conclusion) : Type 0 where
   pub says : WhereFits (λ c. length (sides c) ≡ n) o
 
-one : {l : Line} → Shaped 1 (Outcome.Fits (Conclusion.One l))
+one : {l : Line} → Shaped 1 (Some (Conclusion.One l))
 one = record { says = refl }
 
-two : {l m : Line} → Shaped 1 (Outcome.Fits (Conclusion.Two l m))
+two : {l m : Line} → Shaped 1 (Some (Conclusion.Two l m))
 two = record { says = refl }
 
-new : {i : Name} {l m : Line} → Shaped 1 (Outcome.Fits (Conclusion.New i l m))
+new : {i : Name} {l m : Line} → Shaped 1 (Some (Conclusion.New i l m))
 new = record { says = refl }
 
-fork : {l r : Line} → Shaped 2 (Outcome.Fits (Conclusion.Fork l r))
+fork : {l r : Line} → Shaped 2 (Some (Conclusion.Fork l r))
 fork = record { says = refl }
 
-clash : Shaped 0 (Outcome.Fits Conclusion.Clash)
+clash : Shaped 0 (Some Conclusion.Clash)
 clash = record { says = refl }
 
 -- a shape carries over from what a rule concludes in the end to the rule
 module _ {n : ℕ} where
-  unfit : Shaped n Outcome.Unfit
+  unfit : Shaped n None
   unfit = record { says = tt }
 
-  when_shaped : (t : Bool) (o : Outcome) → Shaped n o → Shaped n (only t o)
+  when_shaped : (t : Bool) (o : Option Conclusion) → Shaped n o → Shaped n (only t o)
   when_shaped t o h = only_fits (Shaped n) unfit t o (λ e. h)
 
-  new_name_law : (a : ℕ) (conclusion : Name → Conclusion) → Shaped n (Outcome.Fits (conclusion (name a))) → Shaped n (new_name a conclusion)
+  new_name_law : (a : ℕ) (conclusion : Name → Conclusion) → Shaped n (Some (conclusion (name a))) → Shaped n (new_name a conclusion)
   new_name_law a conclusion h = new_fits (Shaped n) unfit a conclusion h
 
   arrives : (Q : Line) (d : Direction) (a : ℕ) (i : Name) (conclusion : Name → Conclusion)
-      → ((j : Name) → Shaped n (Outcome.Fits (conclusion j))) → Shaped n (arriving (arrival Q d a i) conclusion)
+      → ((j : Name) → Shaped n (Some (conclusion j))) → Shaped n (arriving (arrival Q d a i) conclusion)
   arrives Q d a i conclusion shaped = arrival_fits (λ P. Shaped n) (λ P. unfit) d a i conclusion (λ l e f. shaped (far_end d l)) Q
 
-  on_has_law : (rule : HasLine → Entry → Outcome) → ((h : HasLine) (e : Entry) → Shaped n (rule h e)) → (bs : List ℕ) (P : Line)
+  on_has_law : (rule : HasLine → Entry → Option Conclusion) → ((h : HasLine) (e : Entry) → Shaped n (rule h e)) → (bs : List ℕ) (P : Line)
       → Shaped n (on_node rule bs P)
   on_has_law rule shaped bs P = has_fits (λ P. Shaped n) (λ P. unfit) bs rule (λ h. shaped h _) P
 
-  on_is_law : (rule : IsLine → Outcome) → ((l : IsLine) → Shaped n (rule l)) → (P : Line) → Shaped n (on_is rule P)
+  on_is_law : (rule : IsLine → Option Conclusion) → ((l : IsLine) → Shaped n (rule l)) → (P : Line) → Shaped n (on_is rule P)
   on_is_law rule shaped P = is_fits (λ P. Shaped n) (λ P. unfit) rule shaped P
 
-  on_compare_law : (rule : CompareLine → Outcome) → ((l : CompareLine) → Shaped n (rule l)) → (P : Line) → Shaped n (on_compare rule P)
+  on_compare_law : (rule : CompareLine → Option Conclusion) → ((l : CompareLine) → Shaped n (rule l)) → (P : Line) → Shaped n (on_compare rule P)
   on_compare_law rule shaped P = compare_fits (λ P. Shaped n) (λ P. unfit) rule shaped P
 
-  on_left_law : (rule : CompareLine → Entry → Outcome) → ((l : CompareLine) (e : Entry) → Shaped n (rule l e)) → (bs : List ℕ) (P : Line)
+  on_left_law : (rule : CompareLine → Entry → Option Conclusion) → ((l : CompareLine) (e : Entry) → Shaped n (rule l e)) → (bs : List ℕ) (P : Line)
       → Shaped n (on_left rule bs P)
   on_left_law rule shaped bs P = left_fits (λ P. Shaped n) (λ P. unfit) bs rule (λ l on. shaped l _) P
 
 -- ---- the rules with several cases
 same_or_differ : (h : HasLine) (e : Entry) → Shaped 1 (rule7 h e)
 same_or_differ h e =
-    otherwise_fits (Shaped 1) unfit e Kind.Same (Outcome.Fits (comparing h e Comparison.Same))
+    otherwise_fits (Shaped 1) unfit e Kind.Same (Some (comparing h e Comparison.Same))
     (when (same_kind e.kind Kind.Differ) (comparing h e Comparison.Differ))
     (λ s. one)
     (search (when_shaped, one))

@@ -1,6 +1,6 @@
 -- The rules are sound: where a step's lines are true, the sides of what it concludes can't all be refuted.
 -- Assumes nothing.
-use Rattle.std.specs.Prelude.{◌≡◌, refl, ◌⊎◌, ◌↔◌, Bool, true, false, List, [], ◌∷◌, ℕ, zero, suc, ◌≤◌, ◌<◌, eqb, length}
+use Rattle.std.specs.Prelude.{◌≡◌, refl, ◌⊎◌, ◌↔◌, Bool, true, false, List, [], ◌∷◌, ℕ, zero, suc, ◌≤◌, ◌<◌, eqb, length, Option, Some}
 use Rattle.std.proofs.Common.{sym, ◌∙◌, ap, subst, inl, inr, arith, ne_eqb}
 use Rattle.std.proofs.lemmas.Bool.{false≢true}
 use Rattle.pattern.specs.declared.types.Name.{Name}
@@ -27,7 +27,6 @@ use Rattle.lines.specs.declared.line.Side.{Side}
 use Rattle.lines.specs.declared.line.Line.{Line}
 use Rattle.steps.specs.declared.step.Step.{Step}
 use Rattle.rules.specs.declared.conclusion.Conclusion.{Conclusion}
-use Rattle.rules.specs.declared.conclusion.Outcome.{Outcome}
 use Rattle.rules.specs.declared.fit.Direction.{Direction}
 use Rattle.lines.specs.Lines.{has, leads, side, axis, name, line_on, line_has, branch_has, line_lacks}
 use Rattle.lines.specs.Formed.{IsNode, Formed, AllFormed, formed_at}
@@ -94,7 +93,7 @@ channel_number_law (suc (suc (suc x))) l = omega (arith, l)
 
 module _ {bs : List ℕ} {n : ℕ} (ok : Valid bs n) (M : Model) (nom : Naming M) where
   -- what is concluded is sound
-  abbrev Shown : Outcome → Type 0
+  abbrev Shown : Option Conclusion → Type 0
   Shown = WhereFits (Sound bs M nom)
 
   -- the new names of a conclusion aren't used in the pattern and aren't on P
@@ -103,11 +102,11 @@ module _ {bs : List ℕ} {n : ℕ} (ok : Valid bs n) (M : Model) (nom : Naming M
   NewTo P (i ∷ is) = ((uses_name bs i ≡ false) × (line_has P i ≡ false)) × NewTo P is
 
   -- sound where that is so
-  abbrev ShownFor : Line → Outcome → Type 0
+  abbrev ShownFor : Line → Option Conclusion → Type 0
   ShownFor P o = WhereFits (λ c. NewTo P (new_names c)) o → Shown o
 
   -- what Q says makes what is concluded sound
-  abbrev ShownBy : Line → Outcome → Type 0
+  abbrev ShownBy : Line → Option Conclusion → Type 0
   ShownBy Q o = True bs M nom Q → Shown o
 
   -- one edge, said in other words
@@ -180,7 +179,7 @@ module _ {bs : List ℕ} {n : ℕ} (ok : Valid bs n) (M : Model) (nom : Naming M
     sound7 : Shown (rule7 h node)
     sound7 =
         let within = first_within ok h.node f.0 in
-        otherwise_fits Shown tt node Kind.Same (Outcome.Fits (comparing h node Comparison.Same)) _
+        otherwise_fits Shown tt node Kind.Same (Some (comparing h node Comparison.Same)) _
         (λ κ. compares Comparison.Same (within Kind.Same κ) (says Kind.Same κ))
         (kind_fits Shown tt node Kind.Differ _ (λ κ. compares Comparison.Differ (within Kind.Differ κ) (says Kind.Differ κ)))
 
@@ -440,22 +439,22 @@ module _ {bs : List ℕ} {n : ℕ} (ok : Valid bs n) (M : Model) (nom : Naming M
 
   -- ---- the table
   -- what is concluded from P is sound where P is formed and true and the new name is fresh
-  abbrev SoundFrom : Line → Outcome → Type 0
+  abbrev SoundFrom : Line → Option Conclusion → Type 0
   SoundFrom P o = Formed bs n P → True bs M nom P → ShownFor P o
 
   -- by the form of P
-  by_has : (rule : HasLine → Entry → Outcome) → ((h : HasLine) → SoundFrom (Line.Has h) (rule h (entry_at bs h.node))) → (P : Line)
+  by_has : (rule : HasLine → Entry → Option Conclusion) → ((h : HasLine) → SoundFrom (Line.Has h) (rule h (entry_at bs h.node))) → (P : Line)
       → SoundFrom P (on_node rule bs P)
   by_has = has_fits SoundFrom (λ P f t w. tt) bs
 
-  by_is : (rule : IsLine → Outcome) → ((l : IsLine) → SoundFrom (Line.Is l) (rule l)) → (P : Line) → SoundFrom P (on_is rule P)
+  by_is : (rule : IsLine → Option Conclusion) → ((l : IsLine) → SoundFrom (Line.Is l) (rule l)) → (P : Line) → SoundFrom P (on_is rule P)
   by_is = is_fits SoundFrom (λ P f t w. tt)
 
-  by_compare : (rule : CompareLine → Outcome) → ((l : CompareLine) → SoundFrom (Line.Compare l) (rule l)) → (P : Line)
+  by_compare : (rule : CompareLine → Option Conclusion) → ((l : CompareLine) → SoundFrom (Line.Compare l) (rule l)) → (P : Line)
       → SoundFrom P (on_compare rule P)
   by_compare = compare_fits SoundFrom (λ P f t w. tt)
 
-  by_left : (rule : CompareLine → Entry → Outcome)
+  by_left : (rule : CompareLine → Entry → Option Conclusion)
       → ((l : CompareLine) → (l.left.path ≡ end_of_path → ⊥) → SoundFrom (Line.Compare l) (rule l (entry_at bs l.left.path))) → (P : Line)
       → SoundFrom P (on_left rule bs P)
   by_left = left_fits SoundFrom (λ P f t w. tt) bs

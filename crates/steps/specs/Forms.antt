@@ -1,6 +1,6 @@
 -- The line P by its form: the entries that a rule reads of it are in the file, and no rule has an axis line for P.
 -- Assumes nothing.
-use Rattle.std.specs.Prelude.{◌≡◌, refl, List, [], ℕ, ◌<◌}
+use Rattle.std.specs.Prelude.{◌≡◌, refl, List, [], ℕ, ◌<◌, None}
 use Rattle.std.proofs.Common.{inl, inr, arith}
 use Rattle.pattern.specs.Checks.Finding.{found}
 use Rattle.pattern.specs.File.Entries.{HasEntry}
@@ -9,7 +9,6 @@ use Rattle.pattern.proofs.File.Valid.{valid}
 use Rattle.lines.specs.declared.line.EdgeLine.{EdgeLine}
 use Rattle.lines.specs.declared.line.Line.{Line}
 use Rattle.lines.specs.Formed.{IsPath, PathWithin, Formed}
-use Rattle.rules.specs.declared.conclusion.Outcome.{Outcome}
 use Rattle.rules.specs.Rules.{rule_at}
 use Rattle.rules.specs.RuleLaws.{unlisted}
 
@@ -36,5 +35,5 @@ module _ (bs : List ℕ) (n : ℕ) (read : reading_of bs ≡ found n) where
   formed_within (Line.Compare l) f = path_within_law l.left.path f.0
 
 -- no rule has an axis line for P
-pub edge_unfit : (bs : List ℕ) (Q : Line) (a k : ℕ) (l : EdgeLine) → (rule_at k).outcome bs (Line.Edge l) Q a ≡ Outcome.Unfit
+pub edge_unfit : (bs : List ℕ) (Q : Line) (a k : ℕ) (l : EdgeLine) → (rule_at k).outcome bs (Line.Edge l) Q a ≡ None
 edge_unfit bs Q a k l = unlisted bs (Line.Edge l) Q a [] refl k tt

@@ -1,6 +1,6 @@
 -- 01's steps: their six bytes, the refusals 19 to 22 of a step on a branch, and what it is to follow a rule.
 -- Assumes nothing.
-use Rattle.std.specs.Prelude.{◌≡◌, Bool, true, false, not, ◌&&◌, ◌||◌, List, [], ◌∷◌, ℕ, zero, suc, ◌+◌, ◌*◌, ◌<◌, eqb, ltb, length, get_or}
+use Rattle.std.specs.Prelude.{◌≡◌, Bool, true, false, not, ◌&&◌, ◌||◌, List, [], ◌∷◌, ℕ, zero, suc, ◌+◌, ◌*◌, ◌<◌, eqb, ltb, length, get_or, Option, Some, None, Result, Ok, Err}
 use Rattle.std.proofs.Math.Path.{refl, ap}
 use Rattle.std.proofs.Common.{sym, ◌∙◌, inl, inr, arith, ltb-true, lt-ltb, eqb-true, ne_eqb}
 use Rattle.std.proofs.lemmas.Bool.{false≢true, not-false, not-true}
@@ -12,9 +12,7 @@ use Rattle.pattern.specs.Meaning.Names.{uses_name}
 use Rattle.lines.specs.declared.line.Line.{Line}
 use Rattle.steps.specs.declared.step.Step.{Step}
 use Rattle.rules.specs.declared.conclusion.Conclusion.{Conclusion}
-use Rattle.rules.specs.declared.conclusion.Outcome.{Outcome}
 use Rattle.steps.specs.declared.step.StepRefusal.{StepRefusal}
-use Rattle.steps.specs.declared.step.StepAnswer.{StepAnswer}
 use Rattle.lines.specs.Lines.{line_on, branch_has, is_fresh}
 use Rattle.rules.specs.Sides.{new_names}
 use Rattle.rules.specs.Rules.{Rule, rules, ◌∈◌, rule_at, is_unknown}
@@ -52,7 +50,7 @@ field_fault b s =
     off_branch b s.p || (line_fault (rule_at s.rule).uses_q b s.q || argument_fault (rule_at s.rule).uses_argument s.argument)
 
 -- what the step's rule makes of its lines and argument, for a pattern
-abbrev pub step_outcome : List ℕ → List Line → Step → Outcome
+abbrev pub step_outcome : List ℕ → List Line → Step → Option Conclusion
 step_outcome bs b s = (rule_at s.rule).outcome bs (line_on b s.p) (line_on b s.q) s.argument
 
 -- a name that the conclusion wants fresh isn't
@@ -68,9 +66,9 @@ abbrev pub rule_field_check : List Line → Step → ℕ → Check
 rule_field_check b s k = refuses_if (is_unknown (rule_at s.rule)) 19 k then refuses_if (field_fault b s) 20 k
 
 -- "21, lines or argument don't fit (name over 127 included); 22, name not fresh"
-abbrev pub unless_stale : List ℕ → List Line → ℕ → Outcome → Finding Conclusion
-unless_stale bs b k (Outcome.Fits c) = unless (refuses_if (is_stale bs b c) 22 k) c
-unless_stale bs b k Outcome.Unfit = refused 21 k
+abbrev pub unless_stale : List ℕ → List Line → ℕ → Option Conclusion → Finding Conclusion
+unless_stale bs b k (Some c) = unless (refuses_if (is_stale bs b c) 22 k) c
+unless_stale bs b k None = refused 21 k
 
 -- a step's answer: what it concludes, or its refusal
 unfoldable pub stepping : List ℕ → List Line → Step → ℕ → Finding Conclusion
@@ -87,7 +85,7 @@ pub record Follows (bs : List ℕ) (b : List Line) (s : Step) (c : Conclusion) :
   pub q_on : rule.uses_q ≡ true → s.q < length b
   pub q_zero : rule.uses_q ≡ false → s.q ≡ 0
   pub argument_zero : rule.uses_argument ≡ false → s.argument ≡ 0
-  pub fits : rule.outcome bs (line_on b s.p) (line_on b s.q) s.argument ≡ Outcome.Fits c
+  pub fits : rule.outcome bs (line_on b s.p) (line_on b s.q) s.argument ≡ Some c
   pub fresh : (i : ℕ) → i ∈ new_names c → (uses_name bs i ≡ false) × (branch_has b i ≡ false)
 
 -- ---- the code's answers, by 01's numbers and values
@@ -106,9 +104,9 @@ refusal_place (StepRefusal.Fresh k) = k
 -- ---- laws
 
 -- the answer of the code
-abbrev pub answer_of : StepAnswer → Finding Conclusion
-answer_of (StepAnswer.Concluded c) = found c
-answer_of (StepAnswer.Refused refusal) = refused (refusal_number refusal) (refusal_place refusal)
+abbrev pub answer_of : Result Conclusion StepRefusal → Finding Conclusion
+answer_of (Ok c) = found c
+answer_of (Err refusal) = refused (refusal_number refusal) (refusal_place refusal)
 
 -- a field without fault, and back
 on_branch : (b : List Line) (k : ℕ) → off_branch b k ≡ false → k < length b
@@ -166,7 +164,7 @@ module _ (bs : List ℕ) (b : List Line) (s : Step) where
     pub follows_rule : (f : Follows bs b s c) → rule_at s.rule ≡ f.rule
     follows_rule f = ap rule_at (sym f.number_is) ∙ (listed_at f.rule f.listed).1
 
-    pub follows_fits : Follows bs b s c → step_outcome bs b s ≡ Outcome.Fits c
+    pub follows_fits : Follows bs b s c → step_outcome bs b s ≡ Some c
     follows_fits f =
         ap (λ (r : Rule). r.outcome bs (line_on b s.p) (line_on b s.q) s.argument) (follows_rule f) ∙ f.fits
 
@@ -212,11 +210,11 @@ module _ (bs : List ℕ) (b : List Line) (s : Step) where
           fresh = none_stale bs b (new_names c) gives.1;
         }
       where
-        go : (o : Outcome) → unless_stale bs b k o ≡ found c → (o ≡ Outcome.Fits c) × (is_stale bs b c ≡ false)
-        go (Outcome.Fits d) e =
+        go : (o : Option Conclusion) → unless_stale bs b k o ≡ found c → (o ≡ Some c) × (is_stale bs b c ≡ false)
+        go (Some d) e =
             let r = found_passes (refuses_if (is_stale bs b d) 22 k) d c e in
-            (ap Outcome.Fits r.1, ap (is_stale bs b) (sym r.1) ∙ refuses_if_passes _ 22 k r.0)
-        go Outcome.Unfit e = (cc, cc)
+            (ap Some r.1, ap (is_stale bs b) (sym r.1) ∙ refuses_if_passes _ 22 k r.0)
+        go None e = (cc, cc)
 
     pub follows_found : Follows bs b s c → (k : ℕ) → stepping bs b s k ≡ found c
     unfolding stepping

@@ -1,11 +1,9 @@
-// A step of a tableau, and its answer.
+// A step of a tableau, and the refusals of one.
 ghost use Rattle.std.specs.Prelude.{◌≡◌, ◌+◌, ◌*◌, ◌≤◌, length};
 ghost use Rattle.steps.specs.Steps.{step_at, refusal_number, refusal_place};
 
-use rules::conclusion::Conclusion;
-
 // Six bytes of a tableau file: "rule (one byte), lines P and Q (16 bits each), argument (one byte)".
-#[derive(Clone, Copy)]
+#[derive(Clone, Copy, Debug, PartialEq, Eq)]
 pub struct Step {
     pub rule: u8,
     pub p: u16,
@@ -15,6 +13,7 @@ pub struct Step {
 
 impl Step {
     // Step k of the bytes of the steps.
+    #[tactic(auto, unfolding(crate::specs::Steps::step_at))]
     pub fn at(steps: &[u8], k: usize) -> Step
         requires { 6 * (k + 1) ≤ length steps.now }
         ensures { result ≡ step_at steps.now k }
@@ -32,7 +31,7 @@ impl Step {
 // Document 01's refusals of a step that go by its rule, each with the step's number: 19, rule unknown;
 // 20, a used line not on the branch or an unused field not zero; 21, lines or argument that don't fit;
 // 22, a name that isn't fresh.
-#[derive(Clone, Copy)]
+#[derive(Clone, Copy, Debug, PartialEq, Eq)]
 pub enum StepRefusal {
     Rule(u16),
     Field(u16),
@@ -41,7 +40,7 @@ pub enum StepRefusal {
 }
 
 impl StepRefusal {
-    // Document 01's number of the refusal.
+    // Document 01's number of the refusal, by cases as those of a pattern.
     pub fn number(self) -> u8
         ensures { result ≡ refusal_number self }
     {
@@ -58,16 +57,10 @@ impl StepRefusal {
         ensures { result ≡ refusal_place self }
     {
         match self {
-            StepRefusal::Rule(k) => k,
-            StepRefusal::Field(k) => k,
-            StepRefusal::Fit(k) => k,
-            StepRefusal::Fresh(k) => k,
+            StepRefusal::Rule(k)
+            | StepRefusal::Field(k)
+            | StepRefusal::Fit(k)
+            | StepRefusal::Fresh(k) => k,
         }
     }
-}
-
-#[derive(Clone, Copy)]
-pub enum StepAnswer {
-    Concluded(Conclusion),
-    Refused(StepRefusal),
 }

@@ -1,4 +1,6 @@
 // What the table of the rules says of a rule's number: asked here alone, where a step is taken.
+#![tactic(auto, unfolding(rules::specs::Rules::rule_at))]
+
 ghost use Rattle.std.specs.Prelude.{◌≡◌, not};
 ghost use Rattle.rules.specs.Rules.{rule_at, is_unknown};
 
@@ -8,36 +10,19 @@ const LAST_RULE: u8 = 25;
 pub fn is_known(rule: u8) -> bool
     ensures { result ≡ not (is_unknown (rule_at rule)) }
 {
-    if rule == 0 {
-        return false;
-    }
-    rule <= LAST_RULE
+    matches!(rule, 1..=LAST_RULE)
 }
 
 // Whether the rule uses the line Q.
 pub fn uses_q(rule: u8) -> bool
     ensures { result ≡ (rule_at rule).uses_q }
 {
-    match rule {
-        6 => true,
-        15 => true,
-        19 => true,
-        20 => true,
-        21 => true,
-        22 => true,
-        _ => false,
-    }
+    matches!(rule, 6 | 15 | 19 | 20 | 21 | 22)
 }
 
 // Whether the rule uses the argument.
 pub fn uses_argument(rule: u8) -> bool
     ensures { result ≡ (rule_at rule).uses_argument }
 {
-    match rule {
-        5 => true,
-        14 => true,
-        18 => true,
-        19 => true,
-        _ => false,
-    }
+    matches!(rule, 5 | 14 | 18 | 19)
 }

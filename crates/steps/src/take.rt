@@ -8,11 +8,11 @@ ghost use Rattle.steps.specs.Steps.{line_fault, argument_fault, field_fault, ste
 ghost use Rattle.steps.specs.AtStep.{AtStep, Readable};
 
 use crate::outcome::outcome;
-use crate::step::{Step, StepAnswer, StepRefusal};
+use crate::step::{Step, StepRefusal};
 use crate::table::{is_known, uses_argument, uses_q};
 use branch_lines::is_fresh;
 use names::NameSet;
-use rules::conclusion::{Conclusion, Outcome};
+use rules::conclusion::Conclusion;
 
 // Whether a branch of so many lines has a line of the number.
 fn on_branch(len: usize, k: u16) -> bool
@@ -26,20 +26,14 @@ fn on_branch(len: usize, k: u16) -> bool
 fn line_fault(used: bool, len: usize, k: u16) -> bool
     ensures { (b : List Line) → length b ≡ len → result ≡ line_fault used b k }
 {
-    if used {
-        return !on_branch(len, k);
-    }
-    k != 0
+    if used { !on_branch(len, k) } else { k != 0 }
 }
 
 // Whether an argument is at fault: an unused one is zero.
 fn argument_fault(used: bool, argument: u8) -> bool
     ensures { result ≡ argument_fault used argument }
 {
-    if used {
-        return false;
-    }
-    argument != 0
+    !used && argument != 0
 }
 
 // Refusal 20: whether "a used line not on the branch or an unused field not zero", on a branch of so
@@ -47,18 +41,14 @@ fn argument_fault(used: bool, argument: u8) -> bool
 fn field_fault(len: usize, s: Step) -> bool
     ensures { (b : List Line) → length b ≡ len → result ≡ field_fault b s }
 {
-    if !on_branch(len, s.p) {
-        return true;
-    }
-    if line_fault(uses_q(s.rule), len, s.q) {
-        return true;
-    }
-    argument_fault(uses_argument(s.rule), s.argument)
+    !on_branch(len, s.p)
+        || line_fault(uses_q(s.rule), len, s.q)
+        || argument_fault(uses_argument(s.rule), s.argument)
 }
 
 // What the rule of a step without such a fault makes of its lines and argument. Where a rule doesn't use
 // Q its number is 0, and the line isn't read.
-fn step_outcome(p: &[u8], area: &[u8], len: usize, s: Step) -> Outcome
+fn step_outcome(p: &[u8], area: &[u8], len: usize, s: Step) -> Option<Conclusion>
     requires readable { Readable p.now area.now len }
     requires s_value { field_fault (lines_from area.now 0 len) s ≡ false }
     ensures { result ≡ step_outcome p.now (lines_from area.now 0 len) s }
@@ -74,31 +64,37 @@ fn is_stale(used: NameSet, area: &[u8], len: usize, conclusion: Conclusion) -> b
     ensures { (bs : List ℕ) → SetOf (uses_name bs) used → result ≡ is_stale bs (lines_from area.now 0 len) conclusion }
 {
     match conclusion {
-        Conclusion::One(_) => false,
-        Conclusion::Two(_, _) => false,
         Conclusion::New(name, _, _) => !is_fresh(used, area, len, name),
-        Conclusion::Fork(_, _) => false,
-        Conclusion::Clash => false,
+        Conclusion::One(_) | Conclusion::Two(_, _) | Conclusion::Fork(_, _) | Conclusion::Clash =>
+            false,
     }
 }
 
 // Step k, which is s, on a branch of so many lines, for a pattern that was read and uses these names.
-pub fn take(p: &[u8], used: NameSet, area: &[u8], len: usize, s: Step, k: u16) -> StepAnswer
+pub fn take(
+    p: &[u8],
+    used: NameSet,
+    area: &[u8],
+    len: usize,
+    s: Step,
+    k: u16,
+) -> Result<Conclusion, StepRefusal>
     requires at_step { AtStep p.now area.now len }
     requires set_of { SetOf (uses_name p.now) used }
     ensures { answer_of result ≡ stepping p.now (lines_from area.now 0 len) s k }
 {
     if !is_known(s.rule) {
-        return StepAnswer::Refused(StepRefusal::Rule(k));
+        return Err(StepRefusal::Rule(k));
     }
     if field_fault(len, s) {
-        return StepAnswer::Refused(StepRefusal::Field(k));
+        return Err(StepRefusal::Field(k));
     }
-    let Outcome::Fits(conclusion) = step_outcome(p, area, len, s) else {
-        return StepAnswer::Refused(StepRefusal::Fit(k));
+    // No `ok_or` with `?`: it copies the conclusion.
+    let Some(conclusion) = step_outcome(p, area, len, s) else {
+        return Err(StepRefusal::Fit(k));
     };
     if is_stale(used, area, len, conclusion) {
-        return StepAnswer::Refused(StepRefusal::Fresh(k));
+        return Err(StepRefusal::Fresh(k));
     }
-    StepAnswer::Concluded(conclusion)
+    Ok(conclusion)
 }

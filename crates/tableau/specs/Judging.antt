@@ -1,6 +1,6 @@
 -- Judging a tableau, 01's "Findings": the tableau file, the refusals in their order, the finding, and what becomes of the working area.
 -- Assumes nothing.
-use Rattle.std.specs.Prelude.{Bool, not, ◌&&◌, ◌||◌, List, [], ◌∷◌, ℕ, ◌+◌, ◌-◌, ◌*◌, leb, ltb, eqb, length, get_or, drop}
+use Rattle.std.specs.Prelude.{Bool, not, ◌&&◌, ◌||◌, List, [], ◌∷◌, ℕ, ◌+◌, ◌-◌, ◌*◌, leb, ltb, eqb, length, get_or, drop, Result, Ok, Err}
 use Rattle.wire.specs.Choice.{pick}
 use Rattle.wire.specs.Fields.{text, begins_with, word_at}
 use Rattle.wire.specs.Cleared.{cleared}
@@ -20,7 +20,6 @@ use Rattle.tableau.specs.declared.finding.Closed.{Closed}
 use Rattle.tableau.specs.declared.finding.HeaderRefusal.{HeaderRefusal}
 use Rattle.tableau.specs.declared.finding.WalkRefusal.{WalkRefusal}
 use Rattle.tableau.specs.declared.finding.TableauRefusal.{TableauRefusal}
-use Rattle.tableau.specs.declared.finding.TableauFinding.{TableauFinding}
 use Rattle.tableau.specs.Run.{run, none}
 
 -- ---- "Tableau file: mark `TAB`, 16-bit version 1, start name (one byte), 16-bit step count s (1 to 4096)."
@@ -139,6 +138,6 @@ refusal_place TableauRefusal.Area = 0
 refusal_place (TableauRefusal.Header refusal) = 0
 refusal_place (TableauRefusal.Walk refusal) = walk_place refusal
 
-abbrev pub finding_of : TableauFinding → Finding Closed
-finding_of (TableauFinding.Closed c) = found c
-finding_of (TableauFinding.Refused refusal) = refused (refusal_number refusal) (refusal_place refusal)
+abbrev pub finding_of : Result Closed TableauRefusal → Finding Closed
+finding_of (Ok c) = found c
+finding_of (Err refusal) = refused (refusal_number refusal) (refusal_place refusal)

@@ -7,7 +7,7 @@ use steps::step::StepRefusal;
 
 // What is counted while steps are checked: steps that say clash, steps that fork their branch in two,
 // and the largest number of lines that a branch had at its clash.
-#[derive(Clone, Copy)]
+#[derive(Clone, Copy, Debug, PartialEq, Eq)]
 pub struct Counts {
     pub clashes: u16,
     pub forks: u16,
@@ -15,7 +15,7 @@ pub struct Counts {
 }
 
 // Document 01's `closed`: the steps, and the counts at the end.
-#[derive(Clone, Copy)]
+#[derive(Clone, Copy, Debug, PartialEq, Eq)]
 pub struct Closed {
     pub steps: u16,
     pub clashes: u16,
@@ -24,7 +24,7 @@ pub struct Closed {
 }
 
 // Document 01's refusals 15 to 18, of the file's first 8 bytes and its length.
-#[derive(Clone, Copy)]
+#[derive(Clone, Copy, Debug, PartialEq, Eq)]
 pub enum HeaderRefusal {
     Mark,
     Version,
@@ -33,7 +33,7 @@ pub enum HeaderRefusal {
 }
 
 impl HeaderRefusal {
-    // Document 01's number of the refusal; its place is 0.
+    // Document 01's number of the refusal; its place is 0, by cases as those of a pattern.
     pub fn number(self) -> u8
         ensures { result ≡ header_number self }
     {
@@ -47,7 +47,7 @@ impl HeaderRefusal {
 }
 
 // Document 01's refusals 19 to 26, each with the step's number; of 26 it is the number of steps.
-#[derive(Clone, Copy)]
+#[derive(Clone, Copy, Debug, PartialEq, Eq)]
 pub enum WalkRefusal {
     Step(StepRefusal),
     Lines(u16),
@@ -57,7 +57,7 @@ pub enum WalkRefusal {
 }
 
 impl WalkRefusal {
-    // Document 01's number of the refusal.
+    // Document 01's number of the refusal, by cases as those of a pattern.
     pub fn number(self) -> u8
         ensures { result ≡ walk_number self }
     {
@@ -76,17 +76,28 @@ impl WalkRefusal {
     {
         match self {
             WalkRefusal::Step(refusal) => refusal.place(),
-            WalkRefusal::Lines(k) => k,
-            WalkRefusal::Waiting(k) => k,
-            WalkRefusal::AllClosed(k) => k,
-            WalkRefusal::StillOpen(k) => k,
+            WalkRefusal::Lines(k)
+            | WalkRefusal::Waiting(k)
+            | WalkRefusal::AllClosed(k)
+            | WalkRefusal::StillOpen(k) => k,
         }
+    }
+}
+
+impl From<StepRefusal> for WalkRefusal {
+    ghost use Rattle.std.specs.Prelude.{◌≡◌};
+    ghost use Rattle.tableau.specs.declared.finding.WalkRefusal.TheVariants.{Step};
+
+    ghost from_gives = { λ refusal r. r ≡ Step refusal };
+
+    fn from(refusal: StepRefusal) -> WalkRefusal {
+        WalkRefusal::Step(refusal)
     }
 }
 
 // Document 01's refusals of judging a tableau: 1 to 8 of the pattern, 9 of the working area, 15 to 18
 // of the header, 19 to 26 of the steps.
-#[derive(Clone, Copy)]
+#[derive(Clone, Copy, Debug, PartialEq, Eq)]
 pub enum TableauRefusal {
     Pattern(PatternRefusal),
     Area,
@@ -95,7 +106,7 @@ pub enum TableauRefusal {
 }
 
 impl TableauRefusal {
-    // Document 01's number of the refusal.
+    // Document 01's number of the refusal, by cases as those of a pattern.
     pub fn number(self) -> u8
         ensures { result ≡ refusal_number self }
     {
@@ -113,15 +124,44 @@ impl TableauRefusal {
     {
         match self {
             TableauRefusal::Pattern(refusal) => refusal.place() as u16,
-            TableauRefusal::Area => 0,
-            TableauRefusal::Header(_) => 0,
+            TableauRefusal::Area | TableauRefusal::Header(_) => 0,
             TableauRefusal::Walk(refusal) => refusal.place(),
         }
     }
 }
 
-#[derive(Clone, Copy)]
-pub enum TableauFinding {
-    Closed(Closed),
-    Refused(TableauRefusal),
+impl From<PatternRefusal> for TableauRefusal {
+    ghost use Rattle.std.specs.Prelude.{◌≡◌};
+    ghost use Rattle.tableau.specs.declared.finding.TableauRefusal.TheVariants.{Pattern};
+
+    ghost from_gives = { λ refusal r. r ≡ Pattern refusal };
+
+    fn from(refusal: PatternRefusal) -> TableauRefusal {
+        TableauRefusal::Pattern(refusal)
+    }
 }
+
+impl From<HeaderRefusal> for TableauRefusal {
+    ghost use Rattle.std.specs.Prelude.{◌≡◌};
+    ghost use Rattle.tableau.specs.declared.finding.TableauRefusal.TheVariants.{Header};
+
+    ghost from_gives = { λ refusal r. r ≡ Header refusal };
+
+    fn from(refusal: HeaderRefusal) -> TableauRefusal {
+        TableauRefusal::Header(refusal)
+    }
+}
+
+impl From<WalkRefusal> for TableauRefusal {
+    ghost use Rattle.std.specs.Prelude.{◌≡◌};
+    ghost use Rattle.tableau.specs.declared.finding.TableauRefusal.TheVariants.{Walk};
+
+    ghost from_gives = { λ refusal r. r ≡ Walk refusal };
+
+    fn from(refusal: WalkRefusal) -> TableauRefusal {
+        TableauRefusal::Walk(refusal)
+    }
+}
+
+// Closed, or refused.
+pub type TableauFinding = Result<Closed, TableauRefusal>;

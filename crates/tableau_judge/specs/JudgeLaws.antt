@@ -1,14 +1,14 @@
 -- Judging a tableau, way by way: what is found where the code refuses, and where it goes on.
 -- Assumes nothing.
-use Rattle.std.specs.Prelude.{Bool, true, false, List, ◌≡◌, refl, ℕ, ◌-◌, ◌*◌, ◌≤◌, ◌<◌, leb, ltb, length, take, drop}
+use Rattle.std.specs.Prelude.{Bool, true, false, Some, None, Result, Ok, Err, List, ◌≡◌, refl, ℕ, ◌-◌, ◌*◌, ◌≤◌, ◌<◌, leb, ltb, length, take, drop}
 use Rattle.std.proofs.Common.{sym, ◌∙◌, ap, le_of_eq, arith, le-ltb, lt-ltb, leb-true, leb-false, length-drop, take_all}
 use Rattle.wire.specs.Choice.{pick}
 use Rattle.pattern.specs.declared.types.Name.{Name}
-use Rattle.pattern.specs.declared.types.NameMade.{NameMade}
+use Rattle.pattern.specs.declared.types.OutOfRange.{OutOfRange}
 use Rattle.pattern.specs.declared.finding.PatternRefusal.{PatternRefusal}
 use Rattle.pattern.specs.Checks.Finding.{found, refused, found_passes, refused_refuses}
 use Rattle.pattern.specs.File.Types.{max_name}
-use Rattle.pattern.specs.File.Made.{make, made, out_of_range, name_made, out_beyond}
+use Rattle.pattern.specs.File.Made.{make, name_made, out_beyond}
 use Rattle.pattern.specs.File.Reading.{reading_of, refusal_number}
 use Rattle.pattern.specs.File.Valid.{read_passes, read_refuses}
 use Rattle.lines.specs.Lines.{name}
@@ -20,18 +20,18 @@ use Rattle.branch_walk.specs.Walk.{steps_found}
 use Rattle.tableau.proofs.JudgingCloses.{header_passes, judging_runs, judging_refuses}
 
 -- ---- the start name, as its making function answers
-pub start_made : (x : ℕ) (m : NameMade) (i : Name) → name_made m ≡ make max_name x → m ≡ NameMade.Made i → (ltb max_name x ≡ false) × (i ≡ name x)
+pub start_made : (x : ℕ) (m : Result Name OutOfRange) (i : Name) → name_made m ≡ make max_name x → m ≡ Ok i → (ltb max_name x ≡ false) × (i ≡ name x)
 start_made x m i e f = go (leb x max_name) refl (sym (ap name_made f) ∙ e)
   where
-    made_number : {k n : ℕ} → made k ≡ made n → k ≡ n
+    made_number : {k n : ℕ} → Some k ≡ Some n → k ≡ n
     made_number h = cc
 
-    go : (b : Bool) → leb x max_name ≡ b → made i.number ≡ pick b (made x) out_of_range → (ltb max_name x ≡ false) × (i ≡ name x)
+    go : (b : Bool) → leb x max_name ≡ b → Some i.number ≡ pick b (Some x) None → (ltb max_name x ≡ false) × (i ≡ name x)
     go true l h = (le-ltb max_name x (leb-true x max_name l), ap name (made_number h))
     go false l h = (cc, cc)
 
-pub start_out : (x : ℕ) (m : NameMade) → name_made m ≡ make max_name x → m ≡ NameMade.OutOfRange → ltb max_name x ≡ true
-start_out x m e f = lt-ltb max_name x (leb-false x max_name (sym (out_beyond max_name x (sym (ap name_made f) ∙ e))))
+pub start_out : (x : ℕ) (m : Result Name OutOfRange) (o : OutOfRange) → name_made m ≡ make max_name x → m ≡ Err o → ltb max_name x ≡ true
+start_out x m o e f = lt-ltb max_name x (leb-false x max_name (sym (out_beyond max_name x (sym (ap name_made f) ∙ e))))
 
 -- ---- what is found where the checks come out so
 

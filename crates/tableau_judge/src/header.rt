@@ -6,7 +6,7 @@ ghost use Rattle.tableau.specs.Judging.{count_wrong};
 ghost use Rattle.tableau_judge.specs.Headers.{header_of, header_finding};
 
 use names::NameSet;
-use pattern::types::{Name, NameMade};
+use pattern::types::Name;
 use tableau::finding::HeaderRefusal;
 
 const MAX_STEPS: u16 = 4096;
@@ -21,49 +21,34 @@ pub struct Header {
     pub steps: u16,
 }
 
-#[derive(Clone, Copy)]
-pub enum HeaderRead {
-    Read(Header),
-    Refused(HeaderRefusal),
-}
-
 // Whether the number of steps is out of range or the length isn't the one that it asks for.
 fn count_wrong(t: &[u8]) -> bool
     requires { 8 ≤ length t.now }
     ensures { result ≡ count_wrong t.now }
 {
     let s = wire::word(t, 6);
-    if s == 0 {
-        return true;
-    }
-    if MAX_STEPS < s {
-        return true;
-    }
-    t.len() != HEADER + 6 * (s as usize)
+    s == 0 || MAX_STEPS < s || t.len() != HEADER + 6 * (s as usize)
 }
 
 // Reads the header of a tableau for a pattern that uses these names.
-pub fn read_header(used: NameSet, t: &[u8]) -> HeaderRead
+#[tactic(auto, unfolding(crate::specs::Headers::header_of, tableau::specs::Judging::header_check))]
+pub fn read_header(used: NameSet, t: &[u8]) -> Result<Header, HeaderRefusal>
     ensures { (bs : List ℕ) → SetOf (uses_name bs) used → header_finding result ≡ header_of bs t.now }
 {
-    if t.len() < HEADER {
-        return HeaderRead::Refused(HeaderRefusal::Mark);
-    }
-    if !wire::begins(t, &tableau::MARK) {
-        return HeaderRead::Refused(HeaderRefusal::Mark);
+    if t.len() < HEADER || !wire::begins(t, &tableau::MARK) {
+        return Err(HeaderRefusal::Mark);
     }
     if wire::word(t, 3) != 1 {
-        return HeaderRead::Refused(HeaderRefusal::Version);
+        return Err(HeaderRefusal::Version);
     }
     if count_wrong(t) {
-        return HeaderRead::Refused(HeaderRefusal::Count);
+        return Err(HeaderRefusal::Count);
     }
-    let NameMade::Made(start) = Name::of(t[5]) else {
-        return HeaderRead::Refused(HeaderRefusal::Start);
-    };
-    if used.has(start.number) {
-        return HeaderRead::Refused(HeaderRefusal::Start);
+    match Name::try_from(t[5]) {
+        Ok(start) if !used.has(start.number) => Ok(Header {
+            start,
+            steps: wire::word(t, 6),
+        }),
+        _ => Err(HeaderRefusal::Start),
     }
-    let steps = wire::word(t, 6);
-    HeaderRead::Read(Header { start, steps })
 }

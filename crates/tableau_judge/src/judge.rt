@@ -4,10 +4,9 @@ ghost use Rattle.pattern.specs.Checks.Finding.{found};
 ghost use Rattle.pattern.specs.File.Reading.{reading_of};
 ghost use Rattle.tableau.specs.Judging.{judging_of, area_after, finding_of};
 
-use crate::header::{HEADER, HeaderRead, read_header};
+use crate::header::{HEADER, Header, read_header};
 use branch_walk::check_steps;
 use names::used_names;
-use pattern::finding::PatternRead;
 use pattern_read::read;
 use tableau::finding::{TableauFinding, TableauRefusal};
 
@@ -21,16 +20,11 @@ fn judge_read(p: &[u8], n: u8, t: &[u8], area: &mut [u8]) -> TableauFinding
     ensures area { area.new ≡ area_after (finding_of result) area.old }
 {
     if area.len() < AREA {
-        return TableauFinding::Refused(TableauRefusal::Area);
+        return Err(TableauRefusal::Area);
     }
     let used = used_names(p, n);
-    match read_header(used, t) {
-        HeaderRead::Refused(refusal) => TableauFinding::Refused(TableauRefusal::Header(refusal)),
-        HeaderRead::Read(h) => {
-            let start = h.start;
-            check_steps(p, n, used, &t[HEADER..], &mut area[..AREA], start, h.steps)
-        }
-    }
+    let Header { start, steps } = read_header(used, t)?;
+    check_steps(p, n, used, &t[HEADER..], &mut area[..AREA], start, steps)
 }
 
 // Judges a tableau: any bytes as pattern, as tableau and as working area give a finding or the first
@@ -39,8 +33,6 @@ pub fn judge(p: &[u8], t: &[u8], area: &mut [u8]) -> TableauFinding
     ensures finding { finding_of result ≡ judging_of p.now t.now (length area.old) }
     ensures area { area.new ≡ area_after (finding_of result) area.old }
 {
-    match read(p) {
-        PatternRead::Refused(refusal) => TableauFinding::Refused(TableauRefusal::Pattern(refusal)),
-        PatternRead::Read(n) => judge_read(p, n, t, area),
-    }
+    let n = read(p)?;
+    judge_read(p, n, t, area)
 }

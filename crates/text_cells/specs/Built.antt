@@ -1,6 +1,6 @@
 -- What the machine makes of the tokens of a text, letter by letter: the tree of its entries.
 -- Assumes nothing.
-use Rattle.std.specs.Prelude.{◌≡◌, Bool, true, false, ℕ, suc, ◌+◌, ◌-◌, ◌*◌, ◌/◌, ◌%◌, ◌≤◌, ◌<◌, eqb, length, get_or}
+use Rattle.std.specs.Prelude.{◌≡◌, Bool, true, false, ℕ, suc, ◌+◌, ◌-◌, ◌*◌, ◌/◌, ◌%◌, ◌≤◌, ◌<◌, Option, Some, None, eqb, length, get_or}
 use Rattle.std.proofs.Math.Path.{refl, subst}
 use Rattle.std.proofs.Common.{sym, ap, ◌∙◌, arith, eq-eqb, ne_eqb, lt-ltb}
 use mathlib.Core.List.{List, [], ◌∷◌}
@@ -11,7 +11,8 @@ use Rattle.typed_text.specs.Tokens.{Token, node_tokens, row_tokens, tokens_of, l
 use Rattle.typed_text.specs.Spelled.{capped, token_word, token_words}
 use Rattle.typed_file.specs.Trees.{Tree, tree, Part, number, entry, unused, node_tree, row_tree}
 use Rattle.typed_file.specs.Formed.{InRange, within_ranges}
-use Rattle.text_cells.specs.Building.{made_by, marks_by, bar_mark, State, with_cell, with_marks, taken, taken_word, built_from, built_of, start, node, path}
+use Rattle.text_cells.specs.declared.letters.Made.{Made}
+use Rattle.text_cells.specs.Building.{made_by, marks_by, bar_mark, State, cell_or, taken, taken_word, built_from, built_of, start, node, path}
 use Rattle.text_cells.specs.Cells.{CellIs, FieldIs, run, Four, run_four, Grown, grown_none, grown_on, cell_grown, field_grown, node_item, row_item, NodeBuilt, RowBuilt, node_cell, row_cell}
 
 -- ---- laws
@@ -45,7 +46,6 @@ module _ (s : State) where
 module _ (b s : State) (four : Four s) (g : Grown b s) where
   leaf_made : (v : ℕ) → v < 256 → s.items ≡ b.items
       → NodeBuilt b (taken 112 v s) (tree 1 (number v) unused unused) × NodeBuilt b (taken 110 v s) (tree 2 (number v) unused unused)
-  unfolding made_by
   leaf_made v l e = (
     node_cell s four (node 0 1 v 0 0) 1 refl (omega arith) (number v) unused unused (number_field s v l) (zero_field s) (zero_field s) b g refl e,
     node_cell s four (node 0 2 v 0 0) 2 refl (omega arith) (number v) unused unused (number_field s v l) (zero_field s) (zero_field s) b g refl e,
@@ -53,14 +53,12 @@ module _ (b s : State) (four : Four s) (g : Grown b s) where
 
   module _ (c : ℕ) (t : Tree) (below : c < s.count) (is : CellIs s.cells c t) (top : s.items ≡ node_item c ∷ b.items) where
     not_made : NodeBuilt b (taken 33 0 s) (tree 3 (entry t) unused unused)
-    unfolding made_by
     not_made =
         subst (λ (items : List ℕ). NodeBuilt b (taken 33 0 (on s items)) (tree 3 (entry t) unused unused)) (sym top)
         (node_cell (on s (node_item c ∷ b.items)) four (node 1 3 (node_item c / 2) 0 0) 3 refl (omega arith) (entry t) unused unused (cell_field s c t below is) (zero_field s) (zero_field s) b
         (grown_on b s _ g (grown_none s _)) refl refl)
 
     after_made : (v : ℕ) → v < 256 → NodeBuilt b (taken 60 v s) (tree 5 (number v) (entry t) unused)
-    unfolding made_by
     after_made v l =
         subst (λ (items : List ℕ). NodeBuilt b (taken 60 v (on s items)) (tree 5 (number v) (entry t) unused)) (sym top)
         (node_cell (on s (node_item c ∷ b.items)) four (node 1 5 v (node_item c / 2) 0) 5 refl (omega arith) (number v) (entry t) unused (number_field s v l) (cell_field s c t below is) (zero_field s) b
@@ -69,12 +67,11 @@ module _ (b s : State) (four : Four s) (g : Grown b s) where
   -- a pair: the mark between its parts is the kind
   pair_made : (c d mark k : ℕ) (t u : Tree) → c < s.count → d < s.count → CellIs s.cells c t → CellIs s.cells d u → mark / 256 ≡ suc k → suc k < 256
       → s.items ≡ node_item c ∷ mark ∷ node_item d ∷ b.items → NodeBuilt b (taken 40 0 s) (tree (suc k) (entry t) (entry u) unused)
-  unfolding made_by
   pair_made c d mark k t u l m is js kind few top =
       let items = node_item c ∷ mark ∷ node_item d ∷ b.items in
       let made = node 3 (mark / 256) (node_item c / 2) (node_item d / 2) 0 in
       subst (λ (items : List ℕ). NodeBuilt b (taken 40 0 (on s items)) (tree (suc k) (entry t) (entry u) unused)) (sym top)
-      (subst (λ (b? : Bool). NodeBuilt b (pick b? (with_marks (marks_by 40 0 (node_item c) mark) (on s items)) (with_cell made (on s items))) (tree (suc k) (entry t) (entry u) unused))
+      (subst (λ (b? : Bool). NodeBuilt b (cell_or (pick b? None (Some made)) (marks_by 40 0 (node_item c) mark) (on s items)) (tree (suc k) (entry t) (entry u) unused))
       (sym (ne_eqb (mark / 256) 0 (λ e. omega (arith, e, kind))))
       (node_cell (on s items) four made (suc k) kind few (entry t) (entry u) unused (cell_field s c t l is) (cell_field s d u m js) (zero_field s) b
       (grown_on b s _ g (grown_none s _)) refl refl))
@@ -82,12 +79,11 @@ module _ (b s : State) (four : Four s) (g : Grown b s) where
   -- a comparison: the mark between its paths is the kind and the channel
   compare_made : (f h mark k v : ℕ) (p q : Part) → FieldIs s.cells s.count f p → FieldIs s.cells s.count h q → mark / 256 ≡ suc k → suc k < 256
       → mark % 256 ≡ v → s.items ≡ row_item f ∷ mark ∷ row_item h ∷ b.items → NodeBuilt b (taken 91 0 s) (tree (suc k) (number v) p q)
-  unfolding made_by
   compare_made f h mark k v p q ps qs kind few channel top =
       let items = row_item f ∷ mark ∷ row_item h ∷ b.items in
       let made = node 3 (mark / 256) (mark % 256) (row_item f / 2) (row_item h / 2) in
       subst (λ (items : List ℕ). NodeBuilt b (taken 91 0 (on s items)) (tree (suc k) (number v) p q)) (sym top)
-      (subst (λ (b? : Bool). NodeBuilt b (pick b? (with_marks (marks_by 91 0 (row_item f) mark) (on s items)) (with_cell made (on s items))) (tree (suc k) (number v) p q))
+      (subst (λ (b? : Bool). NodeBuilt b (cell_or (pick b? None (Some made)) (marks_by 91 0 (row_item f) mark) (on s items)) (tree (suc k) (number v) p q))
       (sym (ne_eqb (mark / 256) 0 (λ e. omega (arith, e, kind))))
       (node_cell (on s items) four made (suc k) kind few (number v) p q (channel, omega arith) (half_field s f p ps) (half_field s h q qs) b
       (grown_on b s _ g (grown_none s _)) refl refl))
@@ -95,7 +91,6 @@ module _ (b s : State) (four : Four s) (g : Grown b s) where
   -- a step and a jump
   item_made : (f v : ℕ) (rest : Part) (under : List ℕ) → v < 256 → FieldIs s.cells s.count f rest → s.items ≡ row_item f ∷ under
       → RowBuilt b (taken 47 v s) under (entry (tree 8 (number v) rest unused)) × RowBuilt b (taken 64 v s) under (entry (tree 9 (number v) rest unused))
-  unfolding made_by
   item_made f v rest under l is top = (
     subst (λ (items : List ℕ). RowBuilt b (taken 47 v (on s items)) under (entry (tree 8 (number v) rest unused))) (sym top)
         (row_cell (on s (row_item f ∷ under)) four (path 1 8 v (row_item f / 2)) 8 refl (omega arith) (number v) rest unused (number_field s v l) (half_field s f rest is) (zero_field s) b
@@ -107,7 +102,6 @@ module _ (b s : State) (four : Four s) (g : Grown b s) where
 
   test_made : (c f : ℕ) (t : Tree) (rest : Part) (under : List ℕ) → c < s.count → CellIs s.cells c t → FieldIs s.cells s.count f rest
       → s.items ≡ node_item c ∷ row_item f ∷ under → RowBuilt b (taken 63 0 s) under (entry (tree 10 (entry t) rest unused))
-  unfolding made_by
   test_made c f t rest under l is fs top =
       subst (λ (items : List ℕ). RowBuilt b (taken 63 0 (on s items)) under (entry (tree 10 (entry t) rest unused))) (sym top)
       (row_cell (on s (node_item c ∷ row_item f ∷ under)) four (path 2 10 (node_item c / 2) (row_item f / 2)) 10 refl (omega arith) (entry t) rest unused (cell_field s c t l is) (half_field s f rest fs) (zero_field s) b
@@ -115,7 +109,6 @@ module _ (b s : State) (four : Four s) (g : Grown b s) where
 
   brace_made : (f h r : ℕ) (p q : Part) (under : List ℕ) → FieldIs s.cells s.count f p → FieldIs s.cells s.count h q
       → s.items ≡ row_item f ∷ row_item h ∷ r ∷ under → RowBuilt b (taken 123 0 s) under (entry (tree 11 p q unused))
-  unfolding made_by
   brace_made f h r p q under ps qs top =
       subst (λ (items : List ℕ). RowBuilt b (taken 123 0 (on s items)) under (entry (tree 11 p q unused))) (sym top)
       (row_cell (on s (row_item f ∷ row_item h ∷ r ∷ under)) four (path 3 11 (row_item f / 2) (row_item h / 2)) 11 refl (omega arith) p q unused (half_field s f p ps) (half_field s h q qs) (zero_field s) b
@@ -123,7 +116,6 @@ module _ (b s : State) (four : Four s) (g : Grown b s) where
 
 -- ---- a bar over a node, and over a row
 bar_node : (s : State) (c : ℕ) (under : List ℕ) → s.items ≡ node_item c ∷ under → taken 124 0 s ≡ on s (3072 ∷ s.items)
-unfolding made_by marks_by
 bar_node s c under top = ap (λ (n : ℕ). on s (n ∷ s.items)) over
   where
     odd : node_item c % 2 ≡ 0 → ⊥
@@ -133,7 +125,6 @@ bar_node s c under top = ap (λ (n : ℕ). on s (n ∷ s.items)) over
     over = rw (top, ne_eqb (node_item c % 2) 0 odd)
 
 bar_row : (s : State) (f n : ℕ) (under : List ℕ) → s.items ≡ row_item f ∷ n ∷ under → taken 124 0 s ≡ on s (n ∷ s.items)
-unfolding made_by marks_by
 bar_row s f n under top = ap (λ (m : ℕ). on s (m ∷ s.items)) over
   where
     even : row_item f % 2 ≡ 0
@@ -200,7 +191,6 @@ Goes s s' P =
 -- a brace, by what its rows make
 brace_built : (b r s w : State) (P Q : Part → Part) (rest : Part) (under : List ℕ) → RowBuilt b r under rest → Goes (taken 125 0 r) s Q
     → Goes (taken 124 0 s) w P → RowBuilt b (taken 123 0 w) under (entry (tree 11 (P rest) (Q rest) unused))
-unfolding made_by marks_by
 brace_built b r s w P Q rest under behind goes_second goes_first =
     let n = row_item behind.field in
     let second = goes_second behind.field (n ∷ under) rest (again_top r n under behind.on_top) behind.is in
@@ -211,8 +201,6 @@ brace_built b r s w P Q rest under behind goes_second goes_first =
     brace_over b r (taken 125 0 r) s (taken 124 0 s) w rest (P rest) (Q rest) n under behind (grown_none r _) second (grown_none s _) first
 
 mutual
-  unfolding made_by marks_by
-
   node_built : (t : NodeText) (i : ℕ) (ys : List Token) → InRange (node_tokens t i ys)
       → NodeBuilt (run ys) (run (node_tokens t i ys)) (node_tree t) × InRange ys
   node_built (NodeText.property k) i ys h =
@@ -332,13 +320,12 @@ text_built t h =
 pub built_few : (ws : List ℕ) → (built_of ws).count ≤ length ws
 unfolding built_of built_from taken_word start
 built_few [] = omega arith
-built_few (w ∷ ws) = go (eqb (made_by (w / 256) (w % 256) (get_or s.items 0 0) (get_or s.items 1 0) (get_or s.items 2 0)).kind 0) (built_few ws)
+built_few (w ∷ ws) = go (made_by (w / 256) (w % 256) (get_or s.items 0 0) (get_or s.items 1 0) (get_or s.items 2 0)) (built_few ws)
   where
     s : State
     s = built_from start ws
 
-    go : (t : Bool) → s.count ≤ length ws
-        → (pick t (with_marks (marks_by (w / 256) (w % 256) (get_or s.items 0 0) (get_or s.items 1 0)) s)
-        (with_cell (made_by (w / 256) (w % 256) (get_or s.items 0 0) (get_or s.items 1 0) (get_or s.items 2 0)) s)).count ≤ suc (length ws)
-    go true h = omega (arith, h)
-    go false h = omega (arith, h)
+    go : (m : Option Made) → s.count ≤ length ws
+        → (cell_or m (marks_by (w / 256) (w % 256) (get_or s.items 0 0) (get_or s.items 1 0)) s).count ≤ suc (length ws)
+    go None h = omega (arith, h)
+    go (Some m) h = omega (arith, h)

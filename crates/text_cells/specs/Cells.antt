@@ -1,13 +1,12 @@
 -- Trees in cells: what the machine makes of the tokens of a text is the tree of its entries, with the rest of each row carried.
 -- Assumes nothing.
-use Rattle.std.specs.Prelude.{◌≡◌, refl, Bool, true, false, List, [], ◌∷◌, ◌++◌, ℕ, suc, ◌+◌, ◌-◌, ◌*◌, ◌≤◌, ◌<◌, eqb, length, get_or, drop}
+use Rattle.std.specs.Prelude.{◌≡◌, refl, List, [], ◌∷◌, ◌++◌, ℕ, suc, ◌+◌, ◌*◌, ◌≤◌, ◌<◌, Option, Some, None, length, get_or, drop}
 use Rattle.std.proofs.Common.{sym, ap, subst, ◌∙◌, append_assoc, append-nil, add-zero, arith, length-append, get_or-append-add}
 use Rattle.std.proofs.Math.ListN.{get_or-append}
-use Rattle.wire.specs.Choice.{pick}
 use Rattle.typed_text.specs.Tokens.{Token}
 use Rattle.typed_file.specs.Trees.{Tree, tree, Part, number, entry}
 use Rattle.text_cells.specs.declared.letters.Made.{Made}
-use Rattle.text_cells.specs.Building.{made_by, marks_by, State, with_cell, with_marks, taken, start}
+use Rattle.text_cells.specs.Building.{made_by, marks_by, State, with_cell, cell_or, taken, start}
 
 -- ---- laws
 
@@ -48,14 +47,11 @@ abbrev pub Four : State → Type 0
 Four s = length s.cells ≡ 4 * s.count
 
 taken_four : (letter value : ℕ) (s : State) → Four s → Four (taken letter value s)
-taken_four letter value s h = go (eqb m.kind 0)
+taken_four letter value s h = go (made_by letter value (get_or s.items 0 0) (get_or s.items 1 0) (get_or s.items 2 0))
   where
-    m : Made
-    m = made_by letter value (get_or s.items 0 0) (get_or s.items 1 0) (get_or s.items 2 0)
-
-    go : (t : Bool) → Four (pick t (with_marks (marks_by letter value (get_or s.items 0 0) (get_or s.items 1 0)) s) (with_cell m s))
-    go true = h
-    go false = length-append s.cells _ ∙ omega (arith, h)
+    go : (m : Option Made) → Four (cell_or m (marks_by letter value (get_or s.items 0 0) (get_or s.items 1 0)) s)
+    go None = h
+    go (Some m) = length-append s.cells _ ∙ omega (arith, h)
 
 pub run_four : (ts : List Token) → Four (run ts)
 unfolding start

@@ -1,12 +1,11 @@
 -- How lent numbers hold the state of the machine, and what a token does to them.
 -- Assumes nothing.
-use Rattle.std.specs.Prelude.{◌≡◌, Bool, true, false, eqb, length, get_or, set, take, replicate}
+use Rattle.std.specs.Prelude.{◌≡◌, Bool, true, false, Option, Some, None, eqb, length, get_or, set, take, replicate}
 use Rattle.std.proofs.Math.Path.{refl, ap, subst}
 use Rattle.std.proofs.Common.{sym, ◌∙◌, not-suc-le-zero, le_of_suc-le-suc, add-zero, arith, length-set, length-append, length-take, drop-cons, get_or-drop, get_or-take, drop-drop}
 use mathlib.Core.List.{List, [], ◌∷◌, ◌++◌}
 use Prim.Native.Nat.{ℕ, zero, suc, ◌+◌, ◌-◌, ◌*◌, ◌/◌, ◌%◌, ◌≤◌, ◌<◌}
 use Rattle.std.proofs.Math.Nat.{sub-zero, zero-sub, min-eq_left}
-use borrow.Author.Tests.{eq-eqb, ne_eqb}
 use Rattle.std.proofs.Math.ListN.{drop, length-replicate}
 use Rattle.std.proofs.Math.Seq.{drop-length}
 use Rattle.wire.specs.Choice.{pick}
@@ -15,7 +14,8 @@ use Rattle.wire.specs.Onto.{onto}
 use Rattle.wire.proofs.Onto.{onto_more}
 use Rattle.text_cells.specs.declared.letters.Made.{Made}
 use Rattle.text_cells.specs.declared.letters.Marks.{Marks}
-use Rattle.text_cells.specs.Building.{made_by, marks_by, State, with_cell, with_marks, taken_word, built_from, start, built_of}
+use Rattle.text_cells.specs.declared.letters.Marks.TheVariants.{Nothing, One, Two}
+use Rattle.text_cells.specs.Building.{node, marked, made_by, marks_by, State, with_cell, with_marks, put, cell_or, taken_word, built_from, start, built_of}
 
 -- ---- laws
 
@@ -40,48 +40,47 @@ pub record FewTaken (m : Made) : Type 0 where
   pub tag_few : m.tag ≤ 1
 
 pub record FewPut (m : Marks) : Type 0 where
-  pub puts_few : m.puts ≤ 2
+  pub puts_few : (items : List ℕ) → length (put m items) ≤ length items + 2
+
+-- the same where there may be no cell
+abbrev pub FewTakenIf : Option Made → Type 0
+FewTakenIf None = Unit {0}
+FewTakenIf (Some m) = FewTaken m
 
 -- of two, whichever is picked
-taken_either : (t : Bool) {x y : Made} → FewTaken x → FewTaken y → FewTaken (pick t x y)
-taken_either true p q = p
-taken_either false p q = q
+taken_either : (t : Bool) (x y : Option Made) → FewTakenIf x → FewTakenIf y → FewTakenIf (pick t x y)
+taken_either true x y p q = p
+taken_either false x y p q = q
 
-put_either : (t : Bool) {x y : Marks} → FewPut x → FewPut y → FewPut (pick t x y)
-put_either true p q = p
-put_either false p q = q
+marked_few : (m : Made) → FewTaken m → FewTakenIf (marked m)
+marked_few m p = taken_either (eqb m.kind 0) None (Some m) tt p
 
-pub made_few : (letter value a b c : ℕ) → FewTaken (made_by letter value a b c)
-unfolding made_by
+pub made_few : (letter value a b c : ℕ) → FewTakenIf (made_by letter value a b c)
 made_few letter value a b c =
-    taken_either (eqb letter 112) (record { takes_few = omega arith; tag_few = omega arith })
-    (taken_either (eqb letter 110) (record { takes_few = omega arith; tag_few = omega arith })
-    (taken_either (eqb letter 33) (record { takes_few = omega arith; tag_few = omega arith })
-    (taken_either (eqb letter 40) (record { takes_few = omega arith; tag_few = omega arith })
-    (taken_either (eqb letter 60) (record { takes_few = omega arith; tag_few = omega arith })
-    (taken_either (eqb letter 91) (record { takes_few = omega arith; tag_few = omega arith })
-    (taken_either (eqb letter 47) (record { takes_few = omega arith; tag_few = omega arith })
-    (taken_either (eqb letter 64) (record { takes_few = omega arith; tag_few = omega arith })
-    (taken_either (eqb letter 63) (record { takes_few = omega arith; tag_few = omega arith })
-    (taken_either (eqb letter 123) (record { takes_few = omega arith; tag_few = omega arith })
-    (record { takes_few = omega arith; tag_few = omega arith }))))))))))
+    taken_either (eqb letter 112) _ _ (record { takes_few = omega arith; tag_few = omega arith })
+    (taken_either (eqb letter 110) _ _ (record { takes_few = omega arith; tag_few = omega arith })
+    (taken_either (eqb letter 33) _ _ (record { takes_few = omega arith; tag_few = omega arith })
+    (taken_either (eqb letter 40) _ _ (marked_few (node 3 (b / 256) (a / 2) (c / 2) 0) (record { takes_few = omega arith; tag_few = omega arith }))
+    (taken_either (eqb letter 60) _ _ (record { takes_few = omega arith; tag_few = omega arith })
+    (taken_either (eqb letter 91) _ _ (marked_few (node 3 (b / 256) (b % 256) (a / 2) (c / 2)) (record { takes_few = omega arith; tag_few = omega arith }))
+    (taken_either (eqb letter 47) _ _ (record { takes_few = omega arith; tag_few = omega arith })
+    (taken_either (eqb letter 64) _ _ (record { takes_few = omega arith; tag_few = omega arith })
+    (taken_either (eqb letter 63) _ _ (record { takes_few = omega arith; tag_few = omega arith })
+    (taken_either (eqb letter 123) _ _ (record { takes_few = omega arith; tag_few = omega arith }) tt)))))))))
+
+put_few : (m : Marks) → FewPut m
+put_few Nothing = record { puts_few = λ items. omega arith }
+put_few (One mark) = record { puts_few = λ items. omega arith }
+put_few (Two under upper) = record { puts_few = λ items. omega arith }
 
 pub marks_few : (letter value a b : ℕ) → FewPut (marks_by letter value a b)
-unfolding marks_by
-marks_few letter value a b =
-    put_either (eqb letter 38) (record { puts_few = omega arith })
-    (put_either (eqb letter 124) (record { puts_few = omega arith })
-    (put_either (eqb letter 125) (record { puts_few = omega arith })
-    (put_either (eqb letter 93) (record { puts_few = omega arith })
-    (put_either (eqb letter 61) (record { puts_few = omega arith })
-    (put_either (eqb letter 35) (record { puts_few = omega arith })
-    (record { puts_few = omega arith }))))))
+marks_few letter value a b = put_few (marks_by letter value a b)
 
 -- the same of what the code has of the letter
-pub taken_few_of : (m : Made) (letter value a b c : ℕ) → m ≡ made_by letter value a b c → FewTaken m
-taken_few_of m letter value a b c e = subst FewTaken (sym e) (made_few letter value a b c)
+pub taken_few_of : (m : Made) (letter value a b c : ℕ) → Some m ≡ made_by letter value a b c → FewTaken m
+taken_few_of m letter value a b c e = subst FewTakenIf (sym e) (made_few letter value a b c)
 
-pub put_few_of : (m : Marks) (letter value a b : ℕ) → m ≡ marks_by letter value a b → m.puts ≤ 2
+pub put_few_of : (m : Marks) (letter value a b : ℕ) → m ≡ marks_by letter value a b → (items : List ℕ) → length (put m items) ≤ length items + 2
 put_few_of m letter value a b e = (subst FewPut (sym e) (marks_few letter value a b)).puts_few
 
 -- an item stored below the stack is its uppermost
@@ -99,92 +98,77 @@ module _ (items : List ℕ) (at : ℕ) (s : State) (held : drop at items ≡ s.i
   top_held = item_held 0 ∙ ap (λ (k : ℕ). get_or items k 0) (add-zero at)
 
 module _ (word count : ℕ) (cells items : List ℕ) (at : ℕ) where
-  abbrev made : Made
+  abbrev made : Option Made
   made = made_by (word / 256) (word % 256) (get_or items at 0) (get_or items (at + 1) 0) (get_or items (at + 2) 0)
 
   abbrev marks : Marks
   marks = marks_by (word / 256) (word % 256) (get_or items at 0) (get_or items (at + 1) 0)
 
-  abbrev cell : List ℕ
-  cell = made.kind ∷ made.x ∷ made.y ∷ made.z ∷ []
-
   -- the token's cell or marks, by the items that the numbers hold
-  taken_cell : (s : State) → drop at items ≡ s.items → (made.kind ≡ 0 → ⊥) → taken_word word s ≡ with_cell made s
+  taken_held : (s : State) → drop at items ≡ s.items → taken_word word s ≡ cell_or made marks s
   unfolding taken_word
-  taken_cell s held h =
-      rw (top_held items at s held, item_held items at s held 1, item_held items at s held 2, ne_eqb made.kind 0 h)
+  taken_held s held = rw (top_held items at s held, item_held items at s held 1, item_held items at s held 2)
 
-  taken_marks : (s : State) → drop at items ≡ s.items → made.kind ≡ 0 → taken_word word s ≡ with_marks marks s
-  unfolding taken_word
-  taken_marks s held h =
-      rw (top_held items at s held, item_held items at s held 1, item_held items at s held 2, eq-eqb made.kind 0 h)
+  -- no cell: the marks lie on the stack then
+  pub marks_took : (k : Marks) → k ≡ marks → None ≡ made → (at' : ℕ) (items' : List ℕ) → at ≤ at' + 2 → at' ≤ at → length items' ≡ length items
+      → drop at' items' ≡ put k (drop at items) → Took word cells count items at at' count cells items'
+  marks_took k e none at' items' low high long stacked = record {
+    low = low;
+    high = omega (arith, high);
+    one_more = omega arith;
+    same_long = long;
+    after = λ s out l held.
+        subst (λ (t : State). Holding t out count cells at' items')
+        (sym (taken_held s held.items_are ∙ ap (λ (m : Option Made). cell_or m marks s) (sym none) ∙ ap (λ (k : Marks). with_marks k s) (sym e)))
+        (record {
+          count_is = held.count_is;
+          cells_are = held.cells_are;
+          items_are = stacked ∙ ap (put k) held.items_are;
+          four_each = held.four_each;
+        });
+  }
 
   module _ (two : 2 ≤ at) (room : at + 3 ≤ length items) where
-    both_stored : (under upper : ℕ) → drop (at - 2) (set (set items (at - 1) under) (at - 2) upper) ≡ upper ∷ under ∷ drop at items
+    pub one_stored : (mark : ℕ) → drop (at - 1) (set items (at - 1) mark) ≡ mark ∷ drop at items
+    one_stored mark = drop_put items (at - 1) mark (omega (arith, two, room)) ∙ ap (λ (k : ℕ). mark ∷ drop k items) over
+      where
+        over : suc (at - 1) ≡ at
+        over = omega (arith, two)
+
+    pub both_stored : (under upper : ℕ) → drop (at - 2) (set (set items (at - 1) under) (at - 2) upper) ≡ upper ∷ under ∷ drop at items
     both_stored under upper =
         drop_put (set items (at - 1) under) (at - 2) upper (simp length-set (omega (arith, two, room)))
         ∙ ap (λ (k : ℕ). upper ∷ drop k (set items (at - 1) under)) below
-        ∙ ap (λ (xs : List ℕ). upper ∷ xs) (drop_put items (at - 1) under (omega (arith, two, room)))
-        ∙ ap (λ (k : ℕ). upper ∷ under ∷ drop k items) over
+        ∙ ap (λ (xs : List ℕ). upper ∷ xs) (one_stored under)
       where
         below : suc (at - 2) ≡ at - 1
         below = omega (arith, two)
 
-        over : suc (at - 1) ≡ at
-        over = omega (arith, two)
-
-    pub took_marks : made.kind ≡ 0
-        → Took word cells count items at (at - marks.puts) count cells (set (set items (at - 1) marks.under) (at - 2) marks.upper)
-    took_marks h =
-        let few = (marks_few (word / 256) (word % 256) (get_or items at 0) (get_or items (at + 1) 0)).puts_few in
-        record {
-          low = omega (arith, few, two);
-          high = omega (arith, few, two);
-          one_more = omega arith;
-          same_long = simp length-set;
-          after = λ s out l held.
-              subst (λ (t : State). Holding t out count cells (at - marks.puts) (set (set items (at - 1) marks.under) (at - 2) marks.upper))
-              (sym (taken_marks s held.items_are h))
-              (record {
-                count_is = held.count_is;
-                cells_are = held.cells_are;
-                items_are = stacked few s held.items_are;
-                four_each = held.four_each;
-              });
-        }
+    pub cell_took : (m : Made) → Some m ≡ made → count < 1024
+        → Took word cells count items at (at + m.takes - 1) (count + 1) (put_from cells (4 * count) 0 (m.kind ∷ m.x ∷ m.y ∷ m.z ∷ []))
+        (set items (at + m.takes - 1) (2 * (256 + count) + m.tag))
+    cell_took m e fits = record {
+      low = omega (arith, few, two);
+      high = omega (arith, few, two);
+      one_more = omega arith;
+      same_long = simp length-set;
+      after = λ s out l held.
+          subst (λ (t : State). Holding t out (count + 1) (put_from cells (4 * count) 0 cell) (at + m.takes - 1) (set items (at + m.takes - 1) (2 * (256 + count) + m.tag)))
+          (sym (taken_held s held.items_are ∙ ap (λ (m : Option Made). cell_or m marks s) (sym e)))
+          (record {
+            count_is = omega (arith, held.count_is);
+            cells_are = stored s out l held;
+            items_are = stacked s held;
+            four_each = length-append s.cells cell ∙ omega (arith, held.four_each);
+          });
+    }
       where
-        stacked : marks.puts ≤ 2 → (s : State) → drop at items ≡ s.items
-            → drop (at - marks.puts) (set (set items (at - 1) marks.under) (at - 2) marks.upper) ≡ (with_marks marks s).items
-        stacked few s held =
-            ap (λ (k : ℕ). drop k (set (set items (at - 1) marks.under) (at - 2) marks.upper)) from
-            ∙ sym (drop-drop (2 - marks.puts) (at - 2) (set (set items (at - 1) marks.under) (at - 2) marks.upper))
-            ∙ ap (drop (2 - marks.puts)) (both_stored marks.under marks.upper ∙ ap (λ (xs : List ℕ). marks.upper ∷ marks.under ∷ xs) held)
-          where
-            from : at - marks.puts ≡ (at - 2) + (2 - marks.puts)
-            from = omega (arith, few, two)
+        few : m.takes ≤ 3
+        few = (taken_few_of m (word / 256) (word % 256) (get_or items at 0) (get_or items (at + 1) 0) (get_or items (at + 2) 0) e).takes_few
 
-    pub took_cell : (made.kind ≡ 0 → ⊥) → count < 1024
-        → Took word cells count items at (at + made.takes - 1) (count + 1)
-        (put_from cells (4 * count) 0 cell)
-        (set items (at + made.takes - 1) (2 * (256 + count) + made.tag))
-    took_cell h fits =
-        let few = (made_few (word / 256) (word % 256) (get_or items at 0) (get_or items (at + 1) 0) (get_or items (at + 2) 0)).takes_few in
-        record {
-          low = omega (arith, few, two);
-          high = omega (arith, few, two);
-          one_more = omega arith;
-          same_long = simp length-set;
-          after = λ s out l held.
-              subst (λ (t : State). Holding t out (count + 1) (put_from cells (4 * count) 0 cell) (at + made.takes - 1) (set items (at + made.takes - 1) (2 * (256 + count) + made.tag)))
-              (sym (taken_cell s held.items_are h))
-              (record {
-                count_is = omega (arith, held.count_is);
-                cells_are = stored s out l held;
-                items_are = stacked few s held;
-                four_each = length-append s.cells cell ∙ omega (arith, held.four_each);
-              });
-        }
-      where
+        cell : List ℕ
+        cell = m.kind ∷ m.x ∷ m.y ∷ m.z ∷ []
+
         stored : (s : State) (out : List ℕ) → length out ≡ 4096 → Holding s out count cells at items
             → put_from cells (4 * count) 0 cell ≡ onto (s.cells ++ cell) out
         stored s out l held =
@@ -192,33 +176,16 @@ module _ (word count : ℕ) (cells items : List ℕ) (at : ℕ) where
             ∙ ap (λ (k : ℕ). put_from (onto s.cells out) k 0 cell) (ap (λ (n : ℕ). 4 * n) held.count_is ∙ sym held.four_each)
             ∙ onto_more s.cells cell out (omega (arith, held.four_each, held.count_is, fits, l))
 
-        stacked : made.takes ≤ 3 → (s : State) → {out : List ℕ} → Holding s out count cells at items
-            → drop (at + made.takes - 1) (set items (at + made.takes - 1) (2 * (256 + count) + made.tag)) ≡ (with_cell made s).items
-        stacked few s held =
-            drop_put items (at + made.takes - 1) (2 * (256 + count) + made.tag) (omega (arith, few, two, room))
-            ∙ ap (λ (k : ℕ). (2 * (256 + count) + made.tag) ∷ drop k items) next
-            ∙ ap (λ (xs : List ℕ). (2 * (256 + count) + made.tag) ∷ xs) (sym (drop-drop made.takes at items) ∙ ap (drop made.takes) held.items_are)
-            ∙ ap (λ (n : ℕ). (2 * (256 + n) + made.tag) ∷ drop made.takes s.items) held.count_is
+        stacked : (s : State) → {out : List ℕ} → Holding s out count cells at items
+            → drop (at + m.takes - 1) (set items (at + m.takes - 1) (2 * (256 + count) + m.tag)) ≡ (with_cell m s).items
+        stacked s held =
+            drop_put items (at + m.takes - 1) (2 * (256 + count) + m.tag) (omega (arith, few, two, room))
+            ∙ ap (λ (k : ℕ). (2 * (256 + count) + m.tag) ∷ drop k items) next
+            ∙ ap (λ (xs : List ℕ). (2 * (256 + count) + m.tag) ∷ xs) (sym (drop-drop m.takes at items) ∙ ap (drop m.takes) held.items_are)
+            ∙ ap (λ (n : ℕ). (2 * (256 + n) + m.tag) ∷ drop m.takes s.items) held.count_is
           where
-            next : suc (at + made.takes - 1) ≡ at + made.takes
+            next : suc (at + m.takes - 1) ≡ at + m.takes
             next = omega (arith, two)
-
-    -- the same of what the code has of the letter
-    pub marks_took : (m : Made) (k : Marks) → m ≡ made → k ≡ marks → m.kind ≡ 0
-        → Took word cells count items at (at - k.puts) count cells (set (set items (at - 1) k.under) (at - 2) k.upper)
-    marks_took m k e f h =
-        subst (λ (k : Marks). Took word cells count items at (at - k.puts) count cells (set (set items (at - 1) k.under) (at - 2) k.upper))
-        (sym f) (took_marks (ap (λ (m : Made). m.kind) (sym e) ∙ h))
-
-    pub cell_took : (m : Made) → m ≡ made → (m.kind ≡ 0 → ⊥) → count < 1024
-        → Took word cells count items at (at + m.takes - 1) (count + 1) (put_from cells (4 * count) 0 (m.kind ∷ m.x ∷ m.y ∷ m.z ∷ []))
-        (set items (at + m.takes - 1) (2 * (256 + count) + m.tag))
-    cell_took m e h fits =
-        subst
-        (λ (m : Made).
-        Took word cells count items at (at + m.takes - 1) (count + 1) (put_from cells (4 * count) 0 (m.kind ∷ m.x ∷ m.y ∷ m.z ∷ []))
-        (set items (at + m.takes - 1) (2 * (256 + count) + m.tag)))
-        (sym e) (took_cell (λ k. h (ap (λ (m : Made). m.kind) e ∙ k)) fits)
 
 -- the tokens from the last down to i are taken
 pub record Going (tokens : List ℕ) (n : ℕ) (lent cells items : List ℕ) (at count i : ℕ) : Type 0 where

@@ -12,7 +12,7 @@ ghost use Rattle.wire.specs.Onto.{onto};
 ghost use Rattle.text_cells.specs.Building.{built_of};
 ghost use Rattle.text_cells.specs.Held.{Took};
 
-use letters::{made_by, marks_by};
+use letters::{Made, Marks, made_by, marks_by};
 
 // The most tokens of a text, and the most cells: a token makes one at most.
 pub const TOKENS: usize = 1024;
@@ -27,53 +27,52 @@ const MIDDLE: usize = 2 * TOKENS;
 const ITEMS: usize = 2 * MIDDLE + 3;
 
 // How far the stack goes, and how many cells there are.
-#[derive(Clone, Copy)]
+#[derive(Clone, Copy, Debug, PartialEq, Eq)]
 struct Built {
     at: usize,
     count: u16,
 }
 
-// Stores a cell behind those that are there.
-fn store(cells: &mut [u16; CELLS], count: u16, kind: u16, x: u16, y: u16, z: u16)
+// Stores a cell behind those that are there. Four writes: `copy_from_slice` at a place is no shorter.
+fn store(cells: &mut [u16; CELLS], count: u16, made: Made)
     requires { count < 1024 }
-    ensures { cells.new ≡ put_from cells.old (4 * count) 0 (kind ∷ x ∷ y ∷ z ∷ []) }
+    ensures { cells.new ≡ put_from cells.old (4 * count) 0 (made.kind ∷ made.x ∷ made.y ∷ made.z ∷ []) }
 {
     let at = 4 * count as usize;
-    cells[at] = kind;
-    cells[at + 1] = x;
-    cells[at + 2] = y;
-    cells[at + 3] = z;
+    cells[at] = made.kind;
+    cells[at + 1] = made.x;
+    cells[at + 2] = made.y;
+    cells[at + 3] = made.z;
 }
 
 // What a token does: its cell is stored behind those that are there, or its marks are put on the stack.
-fn take_token(
-    word: u16,
-    cells: &mut [u16; CELLS],
-    count: u16,
-    items: &mut [u16; ITEMS],
-    at: usize,
-) -> Built
-    requires { (length items.old ≡ 4099) × (2 ≤ at) × (at ≤ 4096) × (count < 1024) }
-    ensures { Took word cells.old count items.old at result.at result.count cells.new items.new }
+fn take_token(word: u16, cells: &mut [u16; CELLS], items: &mut [u16; ITEMS], built: Built) -> Built
+    requires { (length items.old ≡ 4099) × (2 ≤ built.at) × (built.at ≤ 4096) × (built.count < 1024) }
+    ensures { Took word cells.old built.count items.old built.at result.at result.count cells.new items.new }
 {
+    let Built { at, count } = built;
     let letter = (word / 256) as u8;
     let value = word % 256;
-    let made = made_by(letter, value, items[at], items[at + 1], items[at + 2]);
-    if made.kind == 0 {
-        let marks = marks_by(letter, value, items[at], items[at + 1]);
-        items[at - 1] = marks.under;
-        items[at - 2] = marks.upper;
+    if let Some(made) = made_by(letter, value, items[at], items[at + 1], items[at + 2]) {
+        store(cells, count, made);
+        let above = at + made.takes - 1;
+        items[above] = 2 * (256 + count) + made.tag;
         return Built {
-            at: at - marks.puts,
-            count,
+            at: above,
+            count: count + 1,
         };
     }
-    store(cells, count, made.kind, made.x, made.y, made.z);
-    let above = at + made.takes - 1;
-    items[above] = 2 * (256 + count) + made.tag;
-    Built {
-        at: above,
-        count: count + 1,
+    match marks_by(letter, value, items[at], items[at + 1]) {
+        Marks::Nothing => built,
+        Marks::One(mark) => {
+            items[at - 1] = mark;
+            Built { at: at - 1, count }
+        }
+        Marks::Two(under, upper) => {
+            items[at - 1] = under;
+            items[at - 2] = upper;
+            Built { at: at - 2, count }
+        }
     }
 }
 
@@ -84,14 +83,12 @@ pub fn build(tokens: &[u16; TOKENS], n: u16, cells: &mut [u16; CELLS]) -> u16
     ensures cells { cells.new ≡ onto (built_of (take n tokens.now)).cells cells.old }
 {
     let mut items = [0u16; ITEMS];
-    let mut at = MIDDLE;
-    let mut count: u16 = 0;
-    let mut i = n as usize;
-    while 0 < i {
-        i -= 1;
-        let built = take_token(tokens[i], cells, count, &mut items, at);
-        at = built.at;
-        count = built.count;
+    let mut built = Built {
+        at: MIDDLE,
+        count: 0,
+    };
+    for i in (0..n as usize).rev() {
+        built = take_token(tokens[i], cells, &mut items, built);
     }
-    count
+    built.count
 }

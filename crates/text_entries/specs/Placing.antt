@@ -1,11 +1,12 @@
 -- Entries in lent bytes, four to each, and an entry placed among them.
 -- Assumes nothing.
-use Rattle.std.specs.Prelude.{◌≡◌, refl, Bool, true, false, List, [], ◌∷◌, ◌++◌, ℕ, zero, suc, ◌+◌, ◌-◌, ◌*◌, ◌≤◌, ◌<◌, ltb, length, get_or, drop}
-use Rattle.std.proofs.Common.{sym, ap, subst, ◌∙◌, append_assoc, add-zero, zero-add, arith, lt-ltb, le-ltb, length-append, get_or-append-add}
+use Rattle.std.specs.Prelude.{◌≡◌, refl, Bool, true, false, Option, Some, None, Result, Ok, Err, List, [], ◌∷◌, ◌++◌, ℕ, zero, suc, ◌+◌, ◌-◌, ◌*◌, ◌≤◌, ◌<◌, ltb, eqb, length, get_or, drop}
+use Rattle.std.proofs.Common.{sym, ap, subst, ◌∙◌, append_assoc, add-zero, zero-add, arith, lt-ltb, le-ltb, ne_eqb, length-append, get_or-append-add}
 use Rattle.wire.specs.Choice.{pick}
 use Rattle.wire.specs.Blocks.{put_from}
 use Rattle.wire.specs.Onto.{onto}
 use Rattle.wire.proofs.Onto.{onto_more}
+use Rattle.text_entries.specs.declared.TooMany.{TooMany}
 use Rattle.typed_file.specs.Entries.{Entry, same_entry, Found, at, nowhere, found_or, find_from, entry_bytes}
 
 abbrev pub entry_of : ℕ → ℕ → ℕ → ℕ → Entry
@@ -24,6 +25,15 @@ entries_from (suc n) i bs = entry_in bs i ∷ entries_from n (suc i) bs
 abbrev pub number_found : Found → ℕ → ℕ
 number_found (at i) n = i
 number_found nowhere n = n
+
+-- the same as the code has it
+abbrev pub found_as : Option ℕ → Found
+found_as (Some i) = at i
+found_as None = nowhere
+
+-- the 256th, whose number would be 255, has no room
+abbrev pub within_room : ℕ → Result ℕ TooMany
+within_room n = pick (eqb n 255) (Err (record {})) (Ok n)
 
 -- a new one is stored, if it is not the 256th
 abbrev pub stored_if : Found → ℕ → List ℕ → List ℕ → List ℕ
@@ -119,6 +129,14 @@ found_below bs e (suc m) i =
 
 pub among : (bs : List ℕ) (e : Entry) (n : ℕ) → Below n (find_from (entries_from n 0 bs) e 0)
 among bs e n = subst (λ (m : ℕ). Below m (find_from (entries_from n 0 bs) e 0)) (zero-add n) (found_below bs e n 0)
+
+-- one that is found has one of the numbers in use
+pub found_within : (f : Found) (n i : ℕ) → n ≤ 255 → Below n f → at i ≡ f → Ok i ≡ within_room (number_found f n)
+found_within f n i l below e = go f below e
+  where
+    go : (f : Found) → Below n f → at i ≡ f → Ok i ≡ within_room (number_found f n)
+    go (at j) b e = let same : i ≡ j = cc in rw (ne_eqb j 255 (λ h. omega (arith, h, b, l))) (ap (λ (k : ℕ). Ok k) same)
+    go nowhere b e = absurd (let z : ◌≡◌ {A = ℕ} 0 1 = cc in omega arith)
 
 -- what becomes of the bytes, by the number that was found
 pub stored_new : (f : Found) (n : ℕ) (e bs : List ℕ) → Below n f → number_found f n ≡ n → n < 255 → put_from bs (4 * n) 0 e ≡ stored_if f n e bs

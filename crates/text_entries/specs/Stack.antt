@@ -1,7 +1,7 @@
 -- The stack of cells, step by step: it begins with the root; an open part is put on top; a cell whose parts have numbers is placed and taken
 -- off; in the end the entries are the root's.
 -- Assumes nothing.
-use Rattle.std.specs.Prelude.{◌≡◌, refl, Bool, true, false, ℕ, suc, ◌+◌, ◌-◌, ◌*◌, ◌≤◌, ◌<◌, ltb, eqb, set, take, drop, replicate}
+use Rattle.std.specs.Prelude.{◌≡◌, refl, Bool, true, false, Result, Ok, Err, ℕ, suc, ◌+◌, ◌-◌, ◌*◌, ◌≤◌, ◌<◌, ltb, eqb, set, take, drop, replicate}
 use Rattle.std.proofs.Common.{sym, ◌∙◌, arith, lt-ltb, le-ltb, eq-eqb, ne_eqb, eqb-true, ltb-true, ltb-false, length-take, length-append, drop_of_length-le, drop-cons, get_or-set_same, get_or-set_other}
 use Rattle.std.proofs.Math.Path.{ap, subst}
 use mathlib.Core.List.{List, [], ◌∷◌, ◌++◌, append-nil, append_assoc}
@@ -18,10 +18,11 @@ use Rattle.typed_file.specs.Entries.{Entry, Found, find_from, Completed, placed,
 use Rattle.typed_file.specs.Completion.{Stands, Grown, grown_on, completes, complete_distinct, still}
 use Rattle.text_cells.specs.Cells.{CellIs, cell_once}
 use Rattle.text_cells.specs.Held.{drop_put}
-use Rattle.text_entries.specs.declared.Fields.{Fields}
-use Rattle.text_entries.specs.Placing.{entry_of, entries_from, number_found, stored_if, entries_held, bytes_four, entry_stored, Below, among}
+use Rattle.text_entries.specs.declared.TooMany.{TooMany}
+use Rattle.text_entries.specs.declared.Open.{Open}
+use Rattle.text_entries.specs.Placing.{entry_of, entries_from, number_found, within_room, stored_if, entries_held, bytes_four, entry_stored, Below, among}
 use Rattle.text_entries.specs.Opening.{OpenAt, fields_open, fields_numbered}
-use Rattle.text_entries.specs.Completing.{fields_of, count_after, complete_all, AllCells, Going, zeros, zeros_set}
+use Rattle.text_entries.specs.Completing.{fields_of, count_after, ok_is, no_ok, complete_all, AllCells, Going, zeros, zeros_set}
 
 -- ---- laws
 
@@ -49,11 +50,26 @@ all_grown : (ts : List Tree) (es : List Entry) → Grown es (complete_all ts es)
 all_grown [] es = record { new = []; is = sym (append-nil es) }
 all_grown (t ∷ ts) es = grown_on es (complete t es).entries (complete_all ts (complete t es).entries) (completes t es).1 (all_grown ts (complete t es).entries)
 
+-- whether there is room
+no_room : (n : ℕ) (u : TooMany) → within_room n ≡ Err u → n ≡ 255
+no_room n u e = go (eqb n 255) refl
+  where
+    go : (t : Bool) → eqb n 255 ≡ t → n ≡ 255
+    go true h = eqb-true n 255 h
+    go false h = absurd (no_ok u n (sym (rw h at e)))
+
+some_room : (n m : ℕ) → within_room n ≡ Ok m → (n ≡ m) × (n ≡ 255 → ⊥)
+some_room n m e = go (eqb n 255) refl
+  where
+    go : (t : Bool) → eqb n 255 ≡ t → (n ≡ m) × (n ≡ 255 → ⊥)
+    go true h = absurd (no_ok _ m (rw h at e))
+    go false h = (ok_is n m (rw h at e), eqb-false n 255 h)
+
 -- the lent numbers and the stack at first
 abbrev pub blank : List ℕ
 blank = replicate 1024 0
 
-module _ (cells lent : List ℕ) (root : Tree) (lent_long : length lent ≡ 1020) where
+module _ {cells lent : List ℕ} {root : Tree} (lent_long : length lent ≡ 1020) where
   -- the root alone
   pub going_start : (count : ℕ) → 1 ≤ count → count ≤ 1024 → CellIs cells (count - 1) root
       → Going cells lent root blank (set blank 1023 (count - 1)) lent 1023 0
@@ -96,7 +112,7 @@ module _ (cells lent : List ℕ) (root : Tree) (lent_long : length lent ≡ 1020
           drop_put blank 1023 (count - 1) (omega (arith, long))
           ∙ ap (λ (l : List ℕ). (count - 1) ∷ l) (drop_of_length-le blank {i = 1024} (omega (arith, long)))
 
-  module _ (numbers stack entries : List ℕ) (at n : ℕ) (g : Going cells lent root numbers stack entries at n) where
+  module _ {numbers stack entries : List ℕ} {at n : ℕ} (g : Going cells lent root numbers stack entries at n) where
     pub entries_long : length entries ≡ 1020
     unfolding onto
     entries_long =
@@ -131,18 +147,21 @@ module _ (cells lent : List ℕ) (root : Tree) (lent_long : length lent ≡ 1020
       completed_next : complete_all head.others (complete head.top g.es).entries ≡ entries_of root
       completed_next = subst (λ (ts : List Tree). complete_all ts g.es ≡ entries_of root) head.split g.rest
 
-      open_at : (p : ℕ) → fields_of cells numbers cell ≡ Fields.Open p → OpenAt cells numbers g.es cell head.top p
-      open_at p e = go head.top head.is
+      open_at : (o : Open) → fields_of cells numbers cell ≡ Err o → OpenAt cells numbers g.es cell head.top o.0
+      open_at o e = go head.top head.is
         where
-          go : (t : Tree) → CellIs cells cell t → OpenAt cells numbers g.es cell t p
-          go (tree k a b d) is = fields_open cells numbers g.es g.distinct g.small g.numbered k a b d cell is p e
+          go : (t : Tree) → CellIs cells cell t → OpenAt cells numbers g.es cell t o.0
+          go (tree k a b d) is = fields_open cells numbers g.es g.distinct g.small g.numbered k a b d cell is o e
 
-      module _ (p : ℕ) (e : fields_of cells numbers cell ≡ Fields.Open p) where
+      module _ (first : Open) (e : fields_of cells numbers cell ≡ Err first) where
+        abbrev p : ℕ
+        p = first.0
+
         abbrev pushed : List ℕ
         pushed = set stack (at - 1) p
 
         own : p < at
-        own = omega (arith, (open_at p e).before, g.low at (omega arith) l)
+        own = omega (arith, (open_at first e).before, g.low at (omega arith) l)
 
         at_top : get_or pushed (at - 1) 0 ≡ p
         at_top = get_or-set_same stack (at - 1) p 0 (omega (arith, l, g.stack_long))
@@ -166,9 +185,9 @@ module _ (cells lent : List ℕ) (root : Tree) (lent_long : length lent ≡ 1020
         under j m o = go (eqb j at) refl
           where
             go : (t : Bool) → eqb j at ≡ t → p < get_or stack j 0
-            go true q = omega (arith, (open_at p e).before, ap (λ (i : ℕ). get_or stack i 0) (eqb-true j at q))
+            go true q = omega (arith, (open_at first e).before, ap (λ (i : ℕ). get_or stack i 0) (eqb-true j at q))
             go false q =
-                omega (arith, (open_at p e).before, g.rising at j (omega arith) (omega (arith, m, eqb-false j at q)) o)
+                omega (arith, (open_at first e).before, g.rising at j (omega arith) (omega (arith, m, eqb-false j at q)) o)
 
         pub going_open : (1 ≤ at) × Going cells lent root numbers pushed entries (at - 1) n
         going_open = (
@@ -183,17 +202,17 @@ module _ (cells lent : List ℕ) (root : Tree) (lent_long : length lent ≡ 1020
             rising = λ i j m o r.
                 subst (λ (v : ℕ). get_or pushed i 0 < v) (sym (elsewhere j (omega (arith, m, o, own))))
                 (at_place (λ k v. v < get_or stack j 0) i m (under j (omega (arith, m, o, own)) r) (λ q. g.rising i j q o r));
-            without = λ j m o. at_place (λ i v. get_or numbers v 0 ≡ 0) j m (open_at p e).without (λ q. g.without j q o);
+            without = λ j m o. at_place (λ i v. get_or numbers v 0 ≡ 0) j m (open_at first e).without (λ q. g.without j q o);
             es = g.es;
             count_is = g.count_is;
             entries_are = g.entries_are;
             distinct = g.distinct;
             numbered = g.numbered;
-            trees = (open_at p e).part ∷ g.trees;
-            stacked = subst (λ (cs : List ℕ). AllCells cells cs ((open_at p e).part ∷ g.trees)) (sym over) ((open_at p e).cell, g.stacked);
+            trees = (open_at first e).part ∷ g.trees;
+            stacked = subst (λ (cs : List ℕ). AllCells cells cs ((open_at first e).part ∷ g.trees)) (sym over) ((open_at first e).cell, g.stacked);
             rest =
-                subst (λ (ts : List Tree). complete_all ts (complete (open_at p e).part g.es).entries ≡ entries_of root) (sym head.split)
-                (ap (λ (c : Completed). complete_all head.others c.entries) (open_at p e).same ∙ completed_next);
+                subst (λ (ts : List Tree). complete_all ts (complete (open_at first e).part g.es).entries ≡ entries_of root) (sym head.split)
+                (ap (λ (c : Completed). complete_all head.others c.entries) (open_at first e).same ∙ completed_next);
           },
         )
           where
@@ -206,7 +225,16 @@ module _ (cells lent : List ℕ) (root : Tree) (lent_long : length lent ≡ 1020
                 next = omega (arith, own)
 
       -- ---- a cell is placed
-      module _ (x y z : ℕ) (e : fields_of cells numbers cell ≡ Fields.Numbered x y z) where
+      module _ (fields : List ℕ) (e : fields_of cells numbers cell ≡ Ok fields) where
+        abbrev x : ℕ
+        x = get_or fields 0 0
+
+        abbrev y : ℕ
+        y = get_or fields 1 0
+
+        abbrev z : ℕ
+        z = get_or fields 2 0
+
         abbrev new : Entry
         new = entry_of (get_or cells (4 * cell) 0) x y z
 
@@ -232,7 +260,7 @@ module _ (cells lent : List ℕ) (root : Tree) (lent_long : length lent ≡ 1020
           where
             go : (t : Tree) → CellIs cells cell t → complete t g.es ≡ place new g.es
             go (tree k a b d) is =
-                fields_numbered cells numbers g.es g.distinct g.small g.numbered k a b d cell is x y z e
+                fields_numbered cells numbers g.es g.distinct g.small g.numbered k a b d cell is fields e
                 ∙ ap (λ (k : ℕ). place (entry_of k x y z) g.es) (sym is.1.0)
 
         below : Below n found
@@ -363,27 +391,28 @@ module _ (cells lent : List ℕ) (root : Tree) (lent_long : length lent ≡ 1020
                 )
 
         -- the same of what the code has: the kind, the number, the bytes and how many entries there are then
-        module _ (kind r : ℕ) (bs : List ℕ) (k : kind ≡ get_or cells (4 * cell) 0)
-            (numbers_it : r ≡ number_found (find_from (entries_from n 0 entries) (entry_of kind x y z) 0) n)
+        module _ (kind : ℕ) (r : Result ℕ TooMany) (bs : List ℕ) (k : kind ≡ get_or cells (4 * cell) 0)
+            (numbers_it : r ≡ within_room (number_found (find_from (entries_from n 0 entries) (entry_of kind x y z) 0) n))
             (stores_it : bs ≡ stored_if (find_from (entries_from n 0 entries) (entry_of kind x y z) 0) n (kind ∷ x ∷ y ∷ z ∷ []) entries) where
-          number_told : r ≡ number
-          number_told = subst (λ (m : ℕ). r ≡ number_found (find_from (entries_from n 0 entries) (entry_of m x y z) 0) n) k numbers_it
+          number_told : r ≡ within_room number
+          number_told = subst (λ (m : ℕ). r ≡ within_room (number_found (find_from (entries_from n 0 entries) (entry_of m x y z) 0) n)) k numbers_it
 
           bytes_told : bs ≡ stored_if found n four entries
           bytes_told = subst (λ (m : ℕ). bs ≡ stored_if (find_from (entries_from n 0 entries) (entry_of m x y z) 0) n (m ∷ x ∷ y ∷ z ∷ []) entries) k stores_it
 
-          pub full_step : r ≡ 255 → (255 < length (entries_of root)) × (bs ≡ onto (entry_bytes (take 255 (entries_of root))) lent)
-          full_step full = let h = going_full (sym number_told ∙ full) in (h.0, bytes_told ∙ h.1)
+          pub full_step : (u : TooMany) → r ≡ Err u → (255 < length (entries_of root)) × (bs ≡ onto (entry_bytes (take 255 (entries_of root))) lent)
+          full_step u full = let h = going_full (no_room number u (sym number_told ∙ full)) in (h.0, bytes_told ∙ h.1)
 
-          pub few_step : (r ≡ 255 → ⊥) → r ≤ 254
-          few_step room = omega (arith, number_told, number_few, g.few, room)
+          pub few_step : (m : ℕ) → r ≡ Ok m → m ≤ 254
+          few_step m some =
+              let h = some_room number m (sym number_told ∙ some) in omega (arith, h.0, h.1, number_few, g.few)
 
-          pub placed_step : (n' : ℕ) → n' ≡ count_after n r → (r ≡ 255 → ⊥)
-              → Going cells lent root (set numbers cell (r + 1)) stack bs (at + 1) n' × (zeros (set numbers cell (r + 1)) + 1 ≡ zeros numbers)
-          placed_step n' c room =
-              let room' : number ≡ 255 → ⊥ = λ q. room (number_told ∙ q) in (
-                subst (λ (m : ℕ). Going cells lent root (set numbers cell (r + 1)) stack bs (at + 1) m) (sym (c ∙ ap (count_after n) number_told))
-                    (subst (λ (m : ℕ). Going cells lent root (set numbers cell (m + 1)) stack bs (at + 1) (count_after n number)) (sym number_told)
-                    (subst (λ (l : List ℕ). Going cells lent root (set numbers cell (number + 1)) stack l (at + 1) (count_after n number)) (sym bytes_told) (going_placed room'))),
-                subst (λ (m : ℕ). zeros (set numbers cell (m + 1)) + 1 ≡ zeros numbers) (sym number_told) (fewer room'),
+          pub placed_step : (m n' : ℕ) → r ≡ Ok m → n' ≡ count_after n m
+              → Going cells lent root (set numbers cell (m + 1)) stack bs (at + 1) n' × (zeros (set numbers cell (m + 1)) + 1 ≡ zeros numbers)
+          placed_step m n' some c =
+              let h = some_room number m (sym number_told ∙ some) in (
+                subst (λ (l : ℕ). Going cells lent root (set numbers cell (m + 1)) stack bs (at + 1) l) (sym (c ∙ ap (count_after n) (sym h.0)))
+                    (subst (λ (l : ℕ). Going cells lent root (set numbers cell (l + 1)) stack bs (at + 1) (count_after n number)) h.0
+                    (subst (λ (l : List ℕ). Going cells lent root (set numbers cell (number + 1)) stack l (at + 1) (count_after n number)) (sym bytes_told) (going_placed h.1))),
+                subst (λ (l : ℕ). zeros (set numbers cell (l + 1)) + 1 ≡ zeros numbers) h.0 (fewer h.1),
               )

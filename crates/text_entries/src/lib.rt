@@ -15,70 +15,42 @@ use placed::place;
 use text_cells::{CELLS, TOKENS};
 
 // The most entries, and their bytes.
-const ENTRIES: u16 = 255;
+const ENTRIES: u8 = 255;
 
 pub const ENTRY_BYTES: usize = 4 * ENTRIES as usize;
 
-// The fields of a cell: the first that is a part without a number, or the numbers of all three.
-#[derive(Clone, Copy)]
-enum Fields {
-    Open(u16),
-    Numbered(u8, u8, u8),
-}
+// There would be over 255 entries.
+#[derive(Clone, Copy, Debug, PartialEq, Eq)]
+pub struct TooMany;
 
-// How many entries there are, or that they would be over 255.
-#[derive(Clone, Copy)]
-pub enum Entries {
-    Complete(u8),
-    TooMany,
-}
+// A part of a cell that has no number yet.
+#[derive(Clone, Copy, Debug, PartialEq, Eq)]
+struct Open(u16);
 
-// A kept byte as a wider number, still below 256.
-fn wide(kept: u8) -> u16
-    ensures { (result ≡ kept) × (result < 256) }
-{
-    kept as u16
-}
-
-// A field's number; 256 where it is a part that has none yet. What is kept of a part is one more than its
-// number.
-fn number_of(numbers: &[u8; TOKENS], field: u16) -> u16
+// A field's number, unless it is a part that has none yet. What is kept of a part is one more than its
+// number, since an array of options would take twice the fixed memory.
+fn number_of(numbers: &[u8; TOKENS], field: u16) -> Result<u8, Open>
     requires { field < 1280 }
-    ensures { (result ≡ number_of numbers.now field) × (result ≤ 256) }
+    ensures { result ≡ number_of numbers.now field }
 {
     if field < 256 {
-        return field;
+        return Ok(field as u8);
     }
-    let kept = wide(numbers[(field - 256) as usize]);
-    if kept == 0 {
-        return 256;
-    }
-    kept - 1
+    let part = field - 256;
+    numbers[part as usize].checked_sub(1).ok_or(Open(part))
 }
 
-// The fields of a cell, in their order.
-fn fields_of(cells: &[u16; CELLS], numbers: &[u8; TOKENS], cell: u16) -> Fields
+// The numbers of a cell's fields, in their order; or the first that is a part without a number.
+fn fields_of(cells: &[u16; CELLS], numbers: &[u8; TOKENS], cell: u16) -> Result<[u8; 3], Open>
     requires cell_bound { cell < 1024 }
     requires cell_is { (t : Tree) × CellIs cells.now cell t }
     ensures { result ≡ fields_of cells.now numbers.now cell }
 {
     let at = 4 * cell as usize;
-    let f = cells[at + 1];
-    let x = number_of(numbers, f);
-    if x == 256 {
-        return Fields::Open(f - 256);
-    }
-    let g = cells[at + 2];
-    let y = number_of(numbers, g);
-    if y == 256 {
-        return Fields::Open(g - 256);
-    }
-    let h = cells[at + 3];
-    let z = number_of(numbers, h);
-    if z == 256 {
-        return Fields::Open(h - 256);
-    }
-    Fields::Numbered(x as u8, y as u8, z as u8)
+    let x = number_of(numbers, cells[at + 1])?;
+    let y = number_of(numbers, cells[at + 2])?;
+    let z = number_of(numbers, cells[at + 3])?;
+    Ok([x, y, z])
 }
 
 // The kind of a cell.
@@ -91,19 +63,20 @@ fn kind_of(cells: &[u16; CELLS], cell: u16) -> u8
 }
 
 // How many entries there are after one was placed.
-fn count_after(n: u16, number: u16) -> u16
-    requires { n ≤ 255 }
+fn count_after(n: u8, number: u8) -> u8
+    requires { number < 255 }
     ensures { result ≡ count_after n number }
 {
-    if number == n {
-        return n + 1;
-    }
-    n
+    if number == n { n + 1 } else { n }
 }
 
-// Completes the root's cell, the last of count: the entries, up to the 255th, stand at the front of the
-// lent bytes.
-pub fn complete(cells: &[u16; CELLS], count: u16, entries: &mut [u8; ENTRY_BYTES]) -> Entries
+// Completes the root's cell, the last of count, and answers how many entries there are: up to the 255th,
+// they stand at the front of the lent bytes.
+pub fn complete(
+    cells: &[u16; CELLS],
+    count: u16,
+    entries: &mut [u8; ENTRY_BYTES],
+) -> Result<u8, TooMany>
     requires entries_len { length entries.old ≡ 1020 }
     requires le_count { (1 ≤ count) × (count ≤ 1024) }
     requires cell_is { (t : Tree) × CellIs cells.now (count - 1) t }
@@ -114,24 +87,23 @@ pub fn complete(cells: &[u16; CELLS], count: u16, entries: &mut [u8; ENTRY_BYTES
     let mut stack = [0u16; TOKENS];
     let mut at = TOKENS - 1;
     stack[at] = count - 1;
-    let mut n: u16 = 0;
+    let mut n = 0;
+    // The cells under way lie on a stack in fixed memory, up to its end: they come and go as parts do.
     while at < TOKENS {
         let cell = stack[at];
         match fields_of(cells, &numbers, cell) {
-            Fields::Open(part) => {
+            Err(Open(part)) => {
                 at -= 1;
                 stack[at] = part;
             }
-            Fields::Numbered(x, y, z) => {
-                let number = place(entries, n, kind_of(cells, cell), x, y, z);
-                if number == ENTRIES {
-                    return Entries::TooMany;
-                }
+            Ok(fields) => {
+                let [x, y, z] = fields;
+                let number = place(entries, n, [kind_of(cells, cell), x, y, z])?;
                 n = count_after(n, number);
-                numbers[cell as usize] = (number + 1) as u8;
+                numbers[cell as usize] = number + 1;
                 at += 1;
             }
         }
     }
-    Entries::Complete(n as u8)
+    Ok(n)
 }

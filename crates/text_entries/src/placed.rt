@@ -1,47 +1,44 @@
-// Placing an entry among those that stand.
-ghost use Rattle.std.specs.Prelude.{◌≡◌, [], ◌∷◌, ◌≤◌, ◌<◌, length};
+// Placing an entry, four bytes, among those that stand.
+ghost use Rattle.std.specs.Prelude.{◌≡◌, ◌≤◌, ◌<◌, length};
 ghost use Rattle.typed_file.specs.Entries.{same_entry, find_from};
-ghost use Rattle.text_entries.specs.Placing.{entry_of, entry_in, entries_from, number_found, stored_if};
+ghost use Rattle.text_entries.specs.Placing.{entry_in, entries_from, number_found, stored_if, found_as, within_room};
 
-use crate::{ENTRIES, ENTRY_BYTES};
+use crate::{ENTRIES, ENTRY_BYTES, TooMany};
 
 // Whether entry i is this one.
-fn is_entry(entries: &[u8; ENTRY_BYTES], i: u16, kind: u8, x: u8, y: u8, z: u8) -> bool
+fn is_entry(entries: &[u8; ENTRY_BYTES], i: u8, entry: [u8; 4]) -> bool
     requires { i < 255 }
-    ensures { result ≡ same_entry (entry_in entries.now i) (entry_of kind x y z) }
+    ensures { result ≡ same_entry (entry_in entries.now i) (entry_in entry 0) }
 {
     let at = 4 * i as usize;
-    entries[at] == kind && (entries[at + 1] == x && (entries[at + 2] == y && entries[at + 3] == z))
+    entries[at..at + 4] == entry[..]
 }
 
-// The number of the first of n entries that is this one, or n.
-fn find(entries: &[u8; ENTRY_BYTES], n: u16, kind: u8, x: u8, y: u8, z: u8) -> u16
-    requires { n ≤ 255 }
-    ensures { result ≡ number_found (find_from (entries_from n 0 entries.now) (entry_of kind x y z) 0) n }
+// The number of the first of n entries that is this one.
+fn find(entries: &[u8; ENTRY_BYTES], n: u8, entry: [u8; 4]) -> Option<u8>
+    ensures { found_as result ≡ find_from (entries_from n 0 entries.now) (entry_in entry 0) 0 }
 {
-    let mut i = 0u16;
-    while i < n {
-        if is_entry(entries, i, kind, x, y, z) {
-            return i;
+    for i in 0..n {
+        if is_entry(entries, i, entry) {
+            return Some(i);
         }
-        i += 1;
     }
-    n
+    None
 }
 
 // The number of the entry, which is stored behind the n entries if none of them is equal and there is room
 // for it.
-pub fn place(entries: &mut [u8; ENTRY_BYTES], n: u16, kind: u8, x: u8, y: u8, z: u8) -> u16
-    requires entries_len { length entries.old ≡ 1020 }
-    requires n_bound { n ≤ 255 }
-    ensures number { result ≡ number_found (find_from (entries_from n 0 entries.old) (entry_of kind x y z) 0) n }
-    ensures entries { entries.new ≡ stored_if (find_from (entries_from n 0 entries.old) (entry_of kind x y z) 0) n (kind ∷ x ∷ y ∷ z ∷ []) entries.old }
+pub fn place(entries: &mut [u8; ENTRY_BYTES], n: u8, entry: [u8; 4]) -> Result<u8, TooMany>
+    requires { length entries.old ≡ 1020 }
+    ensures number { result ≡ within_room (number_found (find_from (entries_from n 0 entries.old) (entry_in entry 0) 0) n) }
+    ensures entries { entries.new ≡ stored_if (find_from (entries_from n 0 entries.old) (entry_in entry 0) 0) n entry entries.old }
 {
-    let number = find(entries, n, kind, x, y, z);
-    if number == n {
-        if n < ENTRIES {
-            wire::copy_at(entries, 4 * n as usize, &[kind, x, y, z]);
+    match find(entries, n, entry) {
+        Some(number) => Ok(number),
+        None if n < ENTRIES => {
+            wire::copy_at(entries, 4 * n as usize, &entry);
+            Ok(n)
         }
+        None => Err(TooMany),
     }
-    number
 }

@@ -1,13 +1,12 @@
 -- Digits read one by one, with the value capped at each: the number is the one that all of them make, capped.
 -- Assumes nothing.
-use Rattle.std.specs.Prelude.{◌≡◌, refl, Bool, true, false, List, [], ◌∷◌, ℕ, suc, ◌+◌, ◌*◌, ◌-◌, ◌≤◌, ◌<◌, ltb, length, get_or, take, drop}
+use Rattle.std.specs.Prelude.{◌≡◌, refl, Bool, true, false, List, [], ◌∷◌, ℕ, suc, Some, None, ◌+◌, ◌*◌, ◌-◌, ◌≤◌, ◌<◌, ltb, length, get_or, take, drop}
 use Rattle.std.proofs.Common.{sym, ap, ◌∙◌, add-zero, add-one, arith, drop-cons, ltb-true, ltb-false, lt-ltb, le-ltb, ne_eqb}
 use Rattle.std.proofs.Math.Seq.{drop-length}
 use Rattle.typed_text.specs.Text.{is_digit}
 use Rattle.typed_text.specs.Tokens.{value_from}
 use Rattle.typed_text.specs.Spelled.{takes_number, digits_length, capped}
 use Rattle.text_tokens.specs.declared.token.Number.{Number}
-use Rattle.text_tokens.specs.declared.token.NextToken.{NextToken}
 use Rattle.text_tokens.specs.Reading.{digits_at, number_at, token_at}
 
 pub capped_small : (v : ℕ) → v ≤ 255 → capped v ≡ v
@@ -86,13 +85,13 @@ module _ (xs : List ℕ) (at : ℕ) where
 
     -- a letter without a number
     pub token_alone : takes_number (get_or xs at 0) ≡ false
-        → NextToken.Token (record { letter = get_or xs at 0; value = 0; after = at + 1 }) ≡ token_at xs at
+        → Some (record { letter = get_or xs at 0; value = 0; after = at + 1 }) ≡ token_at xs at
     token_alone h = rw (lt-ltb at (length xs) l, h, add-zero)
 
     -- a letter with its number
     pub token_number : takes_number (get_or xs at 0) ≡ true → (k : Number) → k ≡ number_at xs (at + 1)
-        → NextToken.Token (record { letter = get_or xs at 0; value = k.value; after = k.after }) ≡ token_at xs at
+        → Some (record { letter = get_or xs at 0; value = k.value; after = k.after }) ≡ token_at xs at
     token_number h k e = rw (lt-ltb at (length xs) l, h, e)
 
-  pub token_end : length xs ≤ at → NextToken.End ≡ token_at xs at
+  pub token_end : length xs ≤ at → None ≡ token_at xs at
   token_end l = rw (le-ltb at (length xs) l)

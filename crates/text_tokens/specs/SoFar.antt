@@ -1,7 +1,7 @@
 -- Reading the tokens of a text one by one: what holds between two of them.
 -- Assumes nothing.
-use Rattle.std.specs.Prelude.{◌≡◌, refl, Bool, true, false, List, [], ◌∷◌, ◌++◌, ℕ, zero, suc, ◌+◌, ◌*◌, ◌≤◌, ◌<◌, ltb, eqb, length, get_or, take, drop, set}
-use Rattle.std.proofs.Common.{sym, ap, ◌∙◌, append-nil, add-one, arith, length-drop, drop_of_length-le, take-append-drop, drop-cons, drop-drop, ltb-true, ltb-false, lt-ltb, ne_eqb}
+use Rattle.std.specs.Prelude.{◌≡◌, refl, Bool, true, false, List, [], ◌∷◌, ◌++◌, ℕ, zero, suc, ◌+◌, ◌*◌, ◌≤◌, ◌<◌, ltb, eqb, length, get_or, take, drop, set, Option, Some, None}
+use Rattle.std.proofs.Common.{sym, ap, ◌∙◌, append-nil, add-one, arith, length-drop, drop_of_length-le, take-append-drop, drop-cons, drop-drop, ltb-true, ltb-false, lt-ltb}
 use Rattle.std.proofs.lemmas.List.{length-map}
 use Rattle.wire.specs.Choice.{pick}
 use Rattle.wire.specs.Onto.{onto}
@@ -12,18 +12,19 @@ use Rattle.typed_text.specs.Tokens.{limit_of, range_check}
 use Rattle.typed_text.specs.Tokens as text
 use Rattle.typed_text.specs.Spelled.{takes_number, digits_length, numeral_length, number_length, number_value, tokens_from, byte_tokens, capped, token_word, token_words, passed_over}
 use Rattle.text_tokens.specs.declared.token.Token.{Token}
-use Rattle.text_tokens.specs.declared.token.NextToken.{NextToken}
+use Rattle.text_tokens.specs.declared.tokens.OutOfRange.{OutOfRange}
 use Rattle.text_tokens.specs.Reading.{token_of, token_at}
 use Rattle.text_tokens.specs.Ranged.{first_beyond}
 use Rattle.text_tokens.specs.Digits.{capped_small, capped_large}
 use Rattle.text_tokens.specs.Letters.{limit_low}
 
--- the check of all tokens, where the first number out of range stands at this place, 0 if there is none among those that were read
-abbrev pub beyond_then : ℕ → Check → Check
-beyond_then beyond others = pick (eqb beyond 0) others (refuses 31 beyond)
+-- the check of all tokens, with the first number out of range among those that were read
+abbrev pub beyond_then : Option OutOfRange → Check → Check
+beyond_then None others = others
+beyond_then (Some e) others = refuses 31 e.0
 
 -- n tokens were read, up to a place, and stored in front of what was there
-pub record SoFar (xs out tokens : List ℕ) (at n beyond : ℕ) : Type 0 where
+pub record SoFar (xs out tokens : List ℕ) (at n : ℕ) (beyond : Option OutOfRange) : Type 0 where
   pub inside : at ≤ length xs
   pub fewer : n ≤ at
   pub counted : length (take n (byte_tokens xs)) ≡ n
@@ -31,25 +32,25 @@ pub record SoFar (xs out tokens : List ℕ) (at n beyond : ℕ) : Type 0 where
   pub words : tokens ≡ onto (token_words (take n (byte_tokens xs))) out
   pub ranges : range_check (byte_tokens xs) ≡ beyond_then beyond (range_check (drop n (byte_tokens xs)))
 
-pub none_yet : (xs out : List ℕ) → SoFar xs out out 0 0 0
+pub none_yet : (xs out : List ℕ) → SoFar xs out out 0 0 None
 unfolding onto
 none_yet xs out = record { inside = omega arith; fewer = omega arith; counted = refl; left = refl; words = refl; ranges = refl }
 
 -- ---- the next token
 
-pub token_is : (xs : List ℕ) (at : ℕ) (t : Token) → token_at xs at ≡ NextToken.Token t
+pub token_is : (xs : List ℕ) (at : ℕ) (t : Token) → token_at xs at ≡ Some t
     → (at < length xs) × (t ≡ token_of (get_or xs at 0) (drop (at + 1) xs) at)
 token_is xs at t e = go (ltb at (length xs)) refl e
   where
-    go : (s : Bool) → ltb at (length xs) ≡ s → pick s (NextToken.Token (token_of (get_or xs at 0) (drop (at + 1) xs) at)) NextToken.End ≡ NextToken.Token t
+    go : (s : Bool) → ltb at (length xs) ≡ s → pick s (Some (token_of (get_or xs at 0) (drop (at + 1) xs) at)) None ≡ Some t
         → (at < length xs) × (t ≡ token_of (get_or xs at 0) (drop (at + 1) xs) at)
     go true h f = (ltb-true at (length xs) h, cc)
     go false h f = absurd (let z : ◌≡◌ {A = ℕ} 0 1 = cc in omega arith)
 
-pub end_is : (xs : List ℕ) (at : ℕ) → token_at xs at ≡ NextToken.End → length xs ≤ at
+pub end_is : (xs : List ℕ) (at : ℕ) → token_at xs at ≡ None → length xs ≤ at
 end_is xs at e = go (ltb at (length xs)) refl e
   where
-    go : (s : Bool) → ltb at (length xs) ≡ s → pick s (NextToken.Token (token_of (get_or xs at 0) (drop (at + 1) xs) at)) NextToken.End ≡ NextToken.End
+    go : (s : Bool) → ltb at (length xs) ≡ s → pick s (Some (token_of (get_or xs at 0) (drop (at + 1) xs) at)) None ≡ None
         → length xs ≤ at
     go true h f = absurd (let z : ◌≡◌ {A = ℕ} 0 1 = cc in omega arith)
     go false h f = ltb-false at (length xs) h
@@ -78,15 +79,14 @@ capped_beyond limit v low = go (ltb v 255) refl
         let large : 255 ≤ v = ltb-false v 255 e in
         ap (ltb limit) (capped_large v large) ∙ lt-ltb limit 255 low ∙ sym (lt-ltb limit v (omega (arith, low, large)))
 
-beyond_more : (beyond c v i : ℕ) (others : Check)
+beyond_more : (beyond : Option OutOfRange) (c v i : ℕ) (others : Check)
     → beyond_then beyond (refuses_if (ltb (limit_of c) v) 31 (i + 1) then others) ≡ beyond_then (first_beyond beyond c (capped v) i) others
-beyond_more beyond c v i others = rw (capped_beyond (limit_of c) v (limit_low c)) (go (eqb beyond 0) refl (ltb (limit_of c) v) refl)
+beyond_more (Some e) c v i others = refl
+beyond_more None c v i others = rw (capped_beyond (limit_of c) v (limit_low c)) (go (ltb (limit_of c) v))
   where
-    go : (s : Bool) → eqb beyond 0 ≡ s → (t : Bool) → ltb (limit_of c) v ≡ t
-        → pick s (refuses_if t 31 (i + 1) then others) (refuses 31 beyond) ≡ beyond_then (pick s (pick t (i + 1) 0) beyond) others
-    go true e true f = rw (ne_eqb (i + 1) 0 (λ h. omega (arith, h)))
-    go true e false f = refl
-    go false e t f = rw e
+    go : (t : Bool) → (refuses_if t 31 (i + 1) then others) ≡ beyond_then (pick t (Some (record { 0 = i + 1 })) None) others
+    go true = refl
+    go false = refl
 
 -- a number ends inside the text
 digits_inside : (ys : List ℕ) → digits_length ys ≤ length ys
@@ -112,7 +112,7 @@ number_inside c ys = go (takes_number c) refl
     go true e = rw e (numeral_inside ys)
     go false e = rw e (omega arith)
 
-module _ {xs out tokens : List ℕ} {at n beyond : ℕ} (s : SoFar xs out tokens at n beyond) (short : length xs ≤ length out) (l : at < length xs) where
+module _ {xs out tokens : List ℕ} {at n : ℕ} {beyond : Option OutOfRange} (s : SoFar xs out tokens at n beyond) (short : length xs ≤ length out) (l : at < length xs) where
   abbrev b : ℕ
   b = get_or xs at 0
 
@@ -135,7 +135,7 @@ module _ {xs out tokens : List ℕ} {at n beyond : ℕ} (s : SoFar xs out tokens
       ∙ ap (λ (l : List ℕ). tokens_from 0 l after) (drop-drop (number_length b bs) (at + 1) xs))
 
   -- one token more
-  pub one_more : (t : Token) → t ≡ token_of b bs at → (word beyond' : ℕ) → word ≡ t.letter * 256 + t.value
+  pub one_more : (t : Token) → t ≡ token_of b bs at → (word : ℕ) (beyond' : Option OutOfRange) → word ≡ t.letter * 256 + t.value
       → beyond' ≡ first_beyond beyond t.letter t.value at → SoFar xs out (set tokens n word) t.after (n + 1) beyond'
   one_more t e word beyond' f g = rw (e, f, g, add-one n, e) record {
     inside = omega (arith, number_inside b bs, length-drop (at + 1) xs);
@@ -167,7 +167,7 @@ module _ {xs out tokens : List ℕ} {at n beyond : ℕ} (s : SoFar xs out tokens
 
 -- ---- the text's end
 
-module _ {xs out tokens : List ℕ} {at n beyond : ℕ} (s : SoFar xs out tokens at n beyond) (l : length xs ≤ at) where
+module _ {xs out tokens : List ℕ} {at n : ℕ} {beyond : Option OutOfRange} (s : SoFar xs out tokens at n beyond) (l : length xs ≤ at) where
   none_left : drop n (byte_tokens xs) ≡ []
   none_left = s.left ∙ ap (λ (l : List ℕ). tokens_from 0 l at) (drop_of_length-le xs l)
 
@@ -182,8 +182,8 @@ module _ {xs out tokens : List ℕ} {at n beyond : ℕ} (s : SoFar xs out tokens
   all_ranges : range_check (byte_tokens xs) ≡ beyond_then beyond passes
   all_ranges = s.ranges ∙ ap (λ (ts : List text.Token). beyond_then beyond (range_check ts)) none_left
 
-  pub all_within : beyond ≡ 0 → found n ≡ unless (range_check (byte_tokens xs)) (length (byte_tokens xs))
+  pub all_within : beyond ≡ None → found n ≡ unless (range_check (byte_tokens xs)) (length (byte_tokens xs))
   all_within e = rw (all_ranges, e) (ap found (sym s.counted ∙ ap length all_read))
 
-  pub some_beyond : (beyond ≡ 0 → ⊥) → refused 31 beyond ≡ unless (range_check (byte_tokens xs)) (length (byte_tokens xs))
-  some_beyond h = rw (all_ranges, ne_eqb beyond 0 h)
+  pub some_beyond : (e : OutOfRange) → beyond ≡ Some e → refused 31 e.0 ≡ unless (range_check (byte_tokens xs)) (length (byte_tokens xs))
+  some_beyond e h = rw (all_ranges, h)

@@ -1,16 +1,17 @@
 -- One byte of a text, taken by the stack that the bytes of an array hold.
 -- Assumes nothing.
-use Rattle.std.specs.Prelude.{◌≡◌, refl, Bool, true, false, ◌||◌, List, [], ◌∷◌, ◌++◌, ℕ, zero, suc, ◌+◌, ◌-◌, ◌≤◌, ◌<◌, length, get_or, take, drop}
-use Rattle.std.proofs.Common.{sym, ap, ◌∙◌, append_assoc, add-one, arith, drop-cons, drop_at, drop-drop, length-take-le, ne_eqb, lt-ltb, le-ltb}
+use Rattle.std.specs.Prelude.{◌≡◌, refl, Bool, true, false, ◌&&◌, ◌||◌, List, [], ◌∷◌, ◌++◌, ℕ, zero, suc, Option, Some, None, ◌+◌, ◌-◌, ◌≤◌, ◌<◌, length, get_or, take, drop}
+use Rattle.std.proofs.Common.{sym, ap, ◌∙◌, append_assoc, add-one, arith, drop-cons, drop_at, drop-drop, length-take-le, ne_eqb}
 use Rattle.std.proofs.lemmas.Bool.{false≢true}
 use Rattle.std.proofs.Math.Seq.{drop-length}
 use Rattle.std.proofs.lemmas.List.{drop-append-le}
+use Rattle.std.specs.List.{list_all}
 use Rattle.wire.specs.Choice.{pick}
 use Rattle.wire.specs.Blocks.{put_from}
 use Rattle.wire.specs.Onto.{put_from_at}
 use Rattle.typed_text.specs.Text.{is_digit}
 use Rattle.typed_text.specs.Machine.{Want, digits, one_of, Next, none, some, node_takes, row_takes, takes, put_on, next, all_optional, Place, fault, end_place, next_place, place_from}
-use Rattle.text_tokens.specs.declared.grammar.Wants.{Wants}
+use Rattle.text_tokens.specs.declared.wants.Wants.{Wants}
 use Rattle.text_tokens.specs.Stack.{want_of, wants, new_wants, taken, passable}
 
 -- ---- what a byte is not
@@ -64,6 +65,9 @@ taken_digit false ws h = absurd (false≢true (ap is_some h))
     is_some (some vs) = true
 
 -- ---- whether the text may end
+pub may_end_all : (stack : List ℕ) → all_optional (wants stack) ≡ list_all passable stack
+may_end_all [] = refl
+may_end_all (w ∷ ws) = ap (λ (t : Bool). passable w && t) (may_end_all ws)
 
 module _ (stack : List ℕ) (at : ℕ) (l : at < length stack) where
   pub end_on : passable (get_or stack at 0) ≡ true → all_optional (wants (drop at stack)) ≡ all_optional (wants (drop (at + 1) stack))
@@ -129,8 +133,8 @@ place_end text stack at i e = rw (e, drop-length)
 
 -- ---- new wants as bytes
 
-pub new_taken : (new : Wants) → new.0 < 6 → new_wants new ≡ some (wants (drop new.0 new.1))
-new_taken new h = rw (lt-ltb new.0 6 h)
+pub new_taken : (r : Option Wants) (new : Wants) → r ≡ Some new → new_wants r ≡ some (wants (drop new.first new.bytes))
+new_taken r new e = rw e
 
-pub new_refused : (new : Wants) → 6 ≤ new.0 → new_wants new ≡ none
-new_refused new h = rw (le-ltb new.0 6 h)
+pub new_refused : (r : Option Wants) → r ≡ None → new_wants r ≡ none
+new_refused r e = rw e

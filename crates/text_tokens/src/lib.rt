@@ -6,3 +6,4 @@ pub mod grammar;
 mod reader;
 mod token;
 pub mod tokens;
+mod wants;

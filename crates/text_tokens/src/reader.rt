@@ -2,7 +2,7 @@
 ghost use Rattle.std.specs.Prelude.{◌≡◌};
 ghost use Rattle.text_tokens.specs.Reading.{token_at};
 
-use crate::token::{NextToken, token_at};
+use crate::token::{Token, token_at};
 
 #[derive(Clone, Copy)]
 pub struct TextReader<'a> {
@@ -10,22 +10,11 @@ pub struct TextReader<'a> {
     pub at: usize,
 }
 
-pub fn reader_at<'a>(text: &'a [u8], at: usize) -> TextReader<'a>
-    ensures { (result.text ≡ text.entry) × (result.at ≡ at) }
-{
-    TextReader { text, at }
-}
-
-// The token that the reader stands at.
-pub fn next<'a>(reader: TextReader<'a>) -> NextToken
-    ensures { result ≡ token_at reader.entry.text.now reader.entry.at }
-{
-    token_at(reader.text, reader.at)
-}
-
-// The token at a place of a text, for callers that have the text and the place apart.
-pub fn token_from(text: &[u8], at: usize) -> NextToken
-    ensures { result ≡ token_at text.now at }
-{
-    next(reader_at(text, at))
+impl TextReader<'_> {
+    // The token that the reader stands at.
+    pub fn next(self) -> Option<Token>
+        ensures { result ≡ token_at self.entry.text.now self.entry.at }
+    {
+        token_at(self.text, self.at)
+    }
 }

@@ -4,7 +4,7 @@ ghost use Rattle.typed_text.specs.Text.{is_digit};
 ghost use Rattle.typed_text.specs.Spelled.{takes_number, capped};
 ghost use Rattle.text_tokens.specs.Reading.{digits_at, number_at, token_at};
 
-#[derive(Clone, Copy)]
+#[derive(Clone, Copy, Debug, PartialEq, Eq)]
 pub struct Token {
     pub letter: u8,
     // The number, 255 if it is larger: every limit is below that.
@@ -13,41 +13,26 @@ pub struct Token {
     pub after: usize,
 }
 
-#[derive(Clone, Copy)]
-pub enum NextToken {
-    Token(Token),
-    End,
+impl Token {
+    // The token as one number.
+    pub fn word(self) -> u16
+        ensures { result ≡ self.letter * 256 + self.value }
+    {
+        u16::from(self.letter) * 256 + u16::from(self.value)
+    }
 }
 
-#[derive(Clone, Copy)]
+#[derive(Clone, Copy, Debug, PartialEq, Eq)]
 struct Number {
     value: u8,
     after: usize,
-}
-
-fn is_digit(byte: u8) -> bool
-    ensures { result ≡ is_digit byte }
-{
-    if byte < b'0' {
-        return false;
-    }
-    byte <= b'9'
 }
 
 // Whether a number belongs to the letter.
 fn takes_number(letter: u8) -> bool
     ensures { result ≡ takes_number letter }
 {
-    match letter {
-        b'p' => true,
-        b'n' => true,
-        b'<' => true,
-        b'/' => true,
-        b'@' => true,
-        b'=' => true,
-        b'#' => true,
-        _ => false,
-    }
+    matches!(letter, b'p' | b'n' | b'<' | b'/' | b'@' | b'=' | b'#')
 }
 
 // A number with one digit more.
@@ -55,11 +40,7 @@ fn grown(value: u8, digit: u8) -> u8
     requires { is_digit digit ≡ true }
     ensures { result ≡ capped (value * 10 + (digit - 48)) }
 {
-    let larger = (value as u16) * 10 + ((digit - b'0') as u16);
-    if larger < 255 {
-        return larger as u8;
-    }
-    255
+    value.saturating_mul(10).saturating_add(digit - b'0')
 }
 
 // The digits that stand at a place, all of them.
@@ -68,16 +49,16 @@ fn digits(text: &[u8], start: usize) -> Number
     ensures { result ≡ digits_at text.now start }
 {
     let mut value = 0;
-    let mut at = start;
-    while at < text.len() {
-        let byte = text[at];
-        if !is_digit(byte) {
-            return Number { value, after: at };
+    for after in start..text.len() {
+        if !text[after].is_ascii_digit() {
+            return Number { value, after };
         }
-        value = grown(value, byte);
-        at += 1;
+        value = grown(value, text[after]);
     }
-    Number { value, after: at }
+    Number {
+        value,
+        after: text.len(),
+    }
 }
 
 // The number that stands at a place: "Numbers have no leading zeros", so `0` stands alone.
@@ -85,38 +66,30 @@ fn number_at(text: &[u8], at: usize) -> Number
     requires { at ≤ length text.now }
     ensures { result ≡ number_at text.now at }
 {
-    if at == text.len() {
-        return Number {
-            value: 0,
-            after: at,
-        };
-    }
-    if text[at] == b'0' {
-        return Number {
+    if text.get(at) == Some(&b'0') {
+        Number {
             value: 0,
             after: at + 1,
-        };
+        }
+    } else {
+        digits(text, at)
     }
-    digits(text, at)
 }
 
 // The token that begins at a place, whatever stands there.
-pub fn token_at(text: &[u8], at: usize) -> NextToken
+pub fn token_at(text: &[u8], at: usize) -> Option<Token>
     ensures { result ≡ token_at text.now at }
 {
-    if text.len() <= at {
-        return NextToken::End;
-    }
-    let letter = text[at];
+    let letter = *text.get(at)?;
     if !takes_number(letter) {
-        return NextToken::Token(Token {
+        return Some(Token {
             letter,
             value: 0,
             after: at + 1,
         });
     }
     let number = number_at(text, at + 1);
-    NextToken::Token(Token {
+    Some(Token {
         letter,
         value: number.value,
         after: number.after,

@@ -1,6 +1,6 @@
 -- Typing a pattern, 02's Job 7: the refusals in their order, what is found, what becomes of the destination, and what is promised of it.
 -- Assumes nothing.
-use Rattle.std.specs.Prelude.{◌≡◌, ◌||◌, ◌⊎◌, ◌↔◌, List, [], ℕ, ◌≤◌, ◌<◌, ltb, length, take}
+use Rattle.std.specs.Prelude.{◌≡◌, ◌||◌, ◌⊎◌, ◌↔◌, Result, Ok, Err, List, [], ℕ, ◌≤◌, ◌<◌, ltb, length, take}
 use Rattle.pattern.specs.Logic.Semantics.{Model, Naming, Holds}
 use Rattle.pattern.specs.Logic.Finite.{Finite, Named, NodeOf, model_of, naming_of}
 use Rattle.pattern.specs.Checks.Finding.{Finding, found, refused, passes, refuses_if, unless, onward, written, destination_after}
@@ -15,7 +15,6 @@ use Rattle.typed_text.proofs.Viable.{parse}
 use Rattle.typed_file.specs.Trees.{node_tree}
 use Rattle.typed_file.specs.Entries.{Entry, entries_of, file_of}
 use Rattle.typing.specs.declared.finding.TypeRefusal.{TypeRefusal}
-use Rattle.typing.specs.declared.finding.TypeFinding.{TypeFinding}
 
 -- "text over 1,024 bytes"
 abbrev pub max_text : ℕ
@@ -97,6 +96,6 @@ refusal_place (TypeRefusal.Grammar place) = place
 refusal_place (TypeRefusal.Range place) = place
 refusal_place TypeRefusal.Room = 0
 
-abbrev pub finding_of : TypeFinding → Finding ℕ
-finding_of (TypeFinding.Written length) = found length
-finding_of (TypeFinding.Refused refusal) = refused (refusal_number refusal) (refusal_place refusal)
+abbrev pub finding_of : Result ℕ TypeRefusal → Finding ℕ
+finding_of (Ok length) = found length
+finding_of (Err refusal) = refused (refusal_number refusal) (refusal_place refusal)

@@ -1,6 +1,6 @@
 -- The file as it is written, from the bytes of its entries, and what each step of it says of the text.
 -- Assumes nothing.
-use Rattle.std.specs.Prelude.{◌≡◌, refl, Bool, true, false, ℕ, ◌+◌, ◌-◌, ◌*◌, ◌≤◌, ◌<◌, ltb, drop}
+use Rattle.std.specs.Prelude.{◌≡◌, refl, Bool, true, false, Result, Ok, Err, IsErrAnd, ℕ, ◌+◌, ◌-◌, ◌*◌, ◌≤◌, ◌<◌, ltb, drop}
 use Rattle.std.proofs.Math.Path.{sym, ap}
 use Rattle.std.proofs.Common.{subst, ◌∙◌, arith, length-take, take_all}
 use mathlib.Core.List.{List, [], ◌∷◌, ◌++◌}
@@ -22,10 +22,11 @@ use Rattle.typed_file.specs.Entries.{Entry, entry_bytes}
 use Rattle.text_cells.specs.Building.{built_of}
 use Rattle.text_cells.specs.Cells.{CellIs, cell_more}
 use Rattle.text_cells.specs.Built.{TextCells, text_built, built_few}
-use Rattle.text_entries.specs.declared.Entries.{Entries}
+use Rattle.text_entries.specs.declared.TooMany.{TooMany}
 use Rattle.text_entries.specs.Completing.{counted_as}
 use Rattle.text_entries.specs.Placing.{bytes_four}
-use Rattle.typing.specs.Typing.{entries_in, file_within, text_within}
+use Rattle.typing.specs.declared.finding.TypeRefusal.{TypeRefusal}
+use Rattle.typing.specs.Typing.{entries_in, file_within, text_within, refusal_number, refusal_place, finding_of}
 
 -- ---- laws
 
@@ -40,6 +41,11 @@ bytes_within n bytes room = unless (refuses_if (ltb room (length (file_with n by
 pub record TokensOf (t : NodeText) (ws : List ℕ) : Type 0 where
   pub words : ws ≡ token_words (tokens_of t)
   pub within_ranges : range_check (tokens_of t) ≡ passes
+
+-- an error that `?` hands on, by what it is made of
+pub handed_on : (e : TypeRefusal) (r : Result ℕ TypeRefusal) → IsErrAnd r (λ x. x ≡ e) → finding_of r ≡ refused (refusal_number e) (refusal_place e)
+handed_on e (Ok n) h = absurd h
+handed_on e (Err x) h = ap (λ (y : TypeRefusal). refused (refusal_number y) (refusal_place y)) h
 
 -- ---- the bytes of a file
 abbrev pub front : List ℕ → ℕ → List ℕ
@@ -84,29 +90,29 @@ cells_hold t ws out cells count h short counts are =
     }
 
 -- ---- its entries
-complete_is : (k m : ℕ) → Entries.Complete k ≡ counted_as m → (k ≡ m) × (m ≤ 255)
+complete_is : (k m : ℕ) → Ok k ≡ counted_as m → (k ≡ m) × (m ≤ 255)
 complete_is k m e = go (ltb 255 m) refl e
   where
-    go : (b : Bool) → ltb 255 m ≡ b → Entries.Complete k ≡ pick b Entries.TooMany (Entries.Complete m) → (k ≡ m) × (m ≤ 255)
+    go : (b : Bool) → ltb 255 m ≡ b → ◌≡◌ {A = Result ℕ TooMany} (Ok k) (pick b (Err (record {})) (Ok m)) → (k ≡ m) × (m ≤ 255)
     go true h f = absurd (let z : ◌≡◌ {A = ℕ} 0 1 = cc in omega arith)
     go false h f = (cc, ltb-false 255 m h)
 
-many_is : (m : ℕ) → Entries.TooMany ≡ counted_as m → 255 < m
-many_is m e = go (ltb 255 m) refl e
+many_is : (u : TooMany) (m : ℕ) → Err u ≡ counted_as m → 255 < m
+many_is u m e = go (ltb 255 m) refl e
   where
-    go : (b : Bool) → ltb 255 m ≡ b → Entries.TooMany ≡ pick b Entries.TooMany (Entries.Complete m) → 255 < m
+    go : (b : Bool) → ltb 255 m ≡ b → ◌≡◌ {A = Result ℕ TooMany} (Err u) (pick b (Err (record {})) (Ok m)) → 255 < m
     go true h f = ltb-true 255 m h
     go false h f = absurd (let z : ◌≡◌ {A = ℕ} 0 1 = cc in omega arith)
 
 module _ (t : NodeText) (room : ℕ) where
-  pub file_many : Entries.TooMany ≡ counted_as (length (entries_in t)) → file_within t room ≡ refused 32 0
+  pub file_many : (u : TooMany) → Err u ≡ counted_as (length (entries_in t)) → file_within t room ≡ refused 32 0
   unfolding file_within
-  file_many e = rw (lt-ltb max_entries (length (entries_in t)) (many_is (length (entries_in t)) e))
+  file_many u e = rw (lt-ltb max_entries (length (entries_in t)) (many_is u (length (entries_in t)) e))
 
-  pub file_few : (k : ℕ) → Entries.Complete k ≡ counted_as (length (entries_in t)) → k ≤ 255
+  pub file_few : (k : ℕ) → Ok k ≡ counted_as (length (entries_in t)) → k ≤ 255
   file_few k e = let h = complete_is k (length (entries_in t)) e in omega (arith, h.0, h.1)
 
-  pub file_bytes : (k : ℕ) (entries lent : List ℕ) → Entries.Complete k ≡ counted_as (length (entries_in t))
+  pub file_bytes : (k : ℕ) (entries lent : List ℕ) → Ok k ≡ counted_as (length (entries_in t))
       → entries ≡ onto (entry_bytes (take 255 (entries_in t))) lent → bytes_within k (front entries k) room ≡ file_within t room
   unfolding file_within bytes_within
   file_bytes k entries lent e are =

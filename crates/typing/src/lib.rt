@@ -12,9 +12,9 @@ ghost use Rattle.typing.specs.Written.{bytes_within, TokensOf};
 
 use finding::{TypeFinding, TypeRefusal};
 use text_cells::{CELLS, TOKENS, build};
-use text_entries::{ENTRY_BYTES, Entries, complete};
-use text_tokens::grammar::{Grammar, check};
-use text_tokens::tokens::{Ranged, read_tokens};
+use text_entries::{ENTRY_BYTES, complete};
+use text_tokens::grammar::check;
+use text_tokens::tokens::read_tokens;
 
 // The most bytes of a text.
 const TEXT_BYTES: usize = TOKENS;
@@ -27,11 +27,11 @@ fn write_file(entries: &[u8], n: u8, out: &mut [u8]) -> TypeFinding
 {
     let bytes = 4 * n as usize;
     if out.len() < 6 + bytes {
-        return TypeFinding::Refused(TypeRefusal::Room);
+        return Err(TypeRefusal::Room);
     }
     wire::copy_at(out, 0, &[b'P', b'A', b'T', 1, 0, n]);
     wire::copy_at(out, 6, &entries[..bytes]);
-    TypeFinding::Written((6 + bytes) as u16)
+    Ok((6 + bytes) as u16)
 }
 
 // The file of a text whose numbers are in range, of its first n tokens, or refusal 32.
@@ -44,10 +44,8 @@ fn write_tokens(tokens: &[u16; TOKENS], n: u16, out: &mut [u8]) -> TypeFinding
     let mut cells = [0u16; CELLS];
     let count = build(tokens, n, &mut cells);
     let mut entries = [0u8; ENTRY_BYTES];
-    match complete(&cells, count, &mut entries) {
-        Entries::Complete(k) => write_file(&entries, k, out),
-        Entries::TooMany => TypeFinding::Refused(TypeRefusal::Room),
-    }
+    let k = complete(&cells, count, &mut entries)?;
+    write_file(&entries, k, out)
 }
 
 // The file of a text of the grammar, or refusals 31 and 32.
@@ -58,10 +56,19 @@ fn write_text(text: &[u8], out: &mut [u8]) -> TypeFinding
     ensures destination { (t : NodeText) → node t [] ≡ text.now → out.new ≡ destination_after (text_within t (length out.old)) out.old }
 {
     let mut tokens = [0u16; TOKENS];
-    match read_tokens(text, &mut tokens) {
-        Ranged::Within(n) => write_tokens(&tokens, n, out),
-        Ranged::Beyond(place) => TypeFinding::Refused(TypeRefusal::Range(place)),
+    let n = read_tokens(text, &mut tokens)?;
+    write_tokens(&tokens, n, out)
+}
+
+// The file of any bytes, or the first refusal that applies.
+fn write_pattern(text: &[u8], out: &mut [u8]) -> TypeFinding
+    ensures { TypePromise text.now out.old (finding_of result) out.new }
+{
+    if TEXT_BYTES < text.len() {
+        return Err(TypeRefusal::Grammar(0));
     }
+    check(text)?;
+    write_text(text, out)
 }
 
 // Types a pattern: any bytes as text and as destination give the file's length, and the file stands at
@@ -71,11 +78,5 @@ pub fn type_pattern(text: &[u8], out: &mut [u8]) -> TypeFinding
     ensures promise { TypePromise text.now out.old (finding_of result) out.new }
     ensures* everywhere { fact 𝓤 (TypedEverywhere text.now (finding_of result) out.new) ∗ ⊤ₛ }
 {
-    if TEXT_BYTES < text.len() {
-        return TypeFinding::Refused(TypeRefusal::Grammar(0));
-    }
-    match check(text) {
-        Grammar::Fault(place) => TypeFinding::Refused(TypeRefusal::Grammar(place)),
-        Grammar::Whole => write_text(text, out),
-    }
+    write_pattern(text, out)
 }

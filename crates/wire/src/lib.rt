@@ -10,32 +10,19 @@ ghost use Rattle.wire.specs.Blocks.{put_from};
 pub fn begins(s: &[u8], mark: &[u8]) -> bool
     ensures { result ≡ begins_with mark.now s.now }
 {
-    if s.len() < mark.len() {
-        return false;
-    }
-    let mut i = 0;
-    while i < mark.len() {
-        if s[i] != mark[i] {
-            return false;
-        }
-        i += 1;
-    }
-    true
+    s.starts_with(mark)
 }
 
-// A byte, wide enough for the number that it is part of.
-fn wide(byte: u8) -> u64
-    ensures { (result ≡ byte) × (result < 256) }
-{
-    byte as u64
-}
+// The three sizes of numbers have a function each. One that is generic in the size would be no plainer:
+// `from_le_bytes` is a method of each of std's types, of no trait, so a trait of our own would have an
+// impl for each.
 
 // The 16-bit little-endian number at place i of the slice.
 pub fn word(s: &[u8], i: usize) -> u16
     requires { i + 1 < length s.now }
     ensures { result ≡ word_at s.now i }
 {
-    (wide(s[i]) + wide(s[i + 1]) * 256) as u16
+    u16::from_le_bytes([s[i], s[i + 1]])
 }
 
 // The 32-bit little-endian number at place i of the slice.
@@ -43,7 +30,7 @@ pub fn word32(s: &[u8], i: usize) -> u32
     requires { i + 4 ≤ length s.now }
     ensures { result ≡ word32_at s.now i }
 {
-    (wide(s[i]) + wide(s[i + 1]) * 256 + wide(s[i + 2]) * 65536 + wide(s[i + 3]) * 16777216) as u32
+    u32::from_le_bytes([s[i], s[i + 1], s[i + 2], s[i + 3]])
 }
 
 // The 64-bit little-endian number at place i of the slice.
@@ -51,14 +38,16 @@ pub fn word64(s: &[u8], i: usize) -> u64
     requires { i + 8 ≤ length s.now }
     ensures { result ≡ word64_at s.now i }
 {
-    wide(s[i])
-        + wide(s[i + 1]) * 256
-        + wide(s[i + 2]) * 65536
-        + wide(s[i + 3]) * 16777216
-        + wide(s[i + 4]) * 4294967296
-        + wide(s[i + 5]) * 1099511627776
-        + wide(s[i + 6]) * 281474976710656
-        + wide(s[i + 7]) * 72057594037927936
+    u64::from_le_bytes([
+        s[i],
+        s[i + 1],
+        s[i + 2],
+        s[i + 3],
+        s[i + 4],
+        s[i + 5],
+        s[i + 6],
+        s[i + 7],
+    ])
 }
 
 // Puts the bytes of a slice at a place of another.
@@ -66,11 +55,7 @@ pub fn copy_at(out: &mut [u8], at: usize, bytes: &[u8])
     requires { at + length bytes.now ≤ length out.old }
     ensures { out.new ≡ put_from out.old at 0 bytes.now }
 {
-    let mut k = 0;
-    while k < bytes.len() {
-        out[at + k] = bytes[k];
-        k += 1;
-    }
+    out[at..at + bytes.len()].copy_from_slice(bytes);
 }
 
 // Puts a 16-bit little-endian number at a place of a slice.
@@ -78,7 +63,7 @@ pub fn put_word(out: &mut [u8], at: usize, number: u16)
     requires { at + 2 ≤ length out.old }
     ensures { out.new ≡ put_from out.old at 0 (word_bytes number) }
 {
-    copy_at(out, at, &[(number % 256) as u8, (number / 256) as u8]);
+    copy_at(out, at, &number.to_le_bytes());
 }
 
 // Block i of a table becomes this one.
@@ -93,9 +78,5 @@ pub fn put_block(table: &mut [u8], i: usize, block: [u8; 8])
 pub fn clear(s: &mut [u8])
     ensures { s.new ≡ replicate (length s.old) 0 }
 {
-    let mut i = 0;
-    while i < s.len() {
-        s[i] = 0;
-        i += 1;
-    }
+    s.fill(0);
 }

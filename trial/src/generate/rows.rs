@@ -283,8 +283,7 @@ mod tests {
             &[
                 &format!("const FEW_ROWS: usize = {FEW};"),
                 &format!("const MANY_ROWS: usize = {MANY};"),
-                "are_few(path_count(p, &last), n)",
-                "if last[k as usize] != 0 {\n            learn(",
+                "are_few(path_count(q.p, &last), q.n)",
                 "((paths as usize + 1) * (n as usize)) <= FEW_ROWS",
             ],
         );
@@ -292,39 +291,43 @@ mod tests {
         assert_says(
             learning,
             &[
-                "if !paths_held(p, marks, k) {\n        return false;",
-                "marks[TAGS + (slot as usize)] = 0;\n    if fill(p, table, alike, area, rows, marks, n, k, slot) {",
-                "if !paths_held(p, marks, j) {\n        return;",
-                "free_slot(p, marks, last, uses, slots, k, j)",
-                "if sort_at(p, j).is_node() | (is_held(marks, j) | (uses[j as usize] == 0)) {\n        return;",
-                "uses_again(p, marks, last, k, &mut uses);\n    let mut j = 0;\n    while j < k {",
-                "if paths_held(p, marks, k) {\n        return;\n    }\n    learn_needed(",
-                "bring_back(p, table, alike, area, rows, marks, n, slots, last, k);\n    if sort_at(p, k).is_node() {",
-                "n, slots, last, last, k, k,",
+                "if !known.marks.paths_held(q.p, k) {\n        return false;",
+                "known.marks.tag(slot, END);\n    if fill(q, known, k, slot) {\n        known.marks.give(k, slot);\n        known.marks.tag(slot, k);",
+                "if !known.marks.paths_held(q.p, j) {\n            return;",
+                "free_slot(q.p, &known.marks, self.last, uses, self.slots, k, j)",
+                "if sort_at(self.q.p, j).is_node() | (known.marks.is_held(j) | (uses[j as usize] == 0)) {\n            return;",
+                "uses_again(self.q.p, &known.marks, self.last, k, &mut uses);\n        for j in 0..k {",
+                "if known.marks.paths_held(self.q.p, k) {\n            return;\n        }\n        self.learn_needed(",
+                "self.bring_back(known, k);\n        if sort_at(self.q.p, k).is_node() {",
+                "self.learn_in_slot(known, self.last, k, k);",
+                "for k in 0..p[5] {\n            if self.last[k as usize] != 0 {\n                self.learn(",
             ],
         );
         let uses = include_str!("../../../crates/slots/src/uses.rt");
         assert_says(
             uses,
             &[
-                "let least = least_use(j);",
+                "if is_reference(field) & goes(uses[value as usize]) {",
+                "fn is_none(noted: u8) -> bool {\n    noted == 0",
+                "refer_to_parts(p, last, &is_none, j);",
+                "for j in (0..count).rev() {",
+                "let least = j.max(1);\n    for slot in 1..slots {",
                 "if uses[path as usize] < least {\n            return slot;",
-                "fn least_use(j: u8) -> u8 {\n    if j == 0 {\n        return 1;",
                 "taken_slot(p, marks, last, slots, k)\n",
-                "let mut j = p[5];\n    while k < j {\n        j -= 1;",
+                "for j in (k..p[5]).rev() {\n        if last[j as usize] != 0 {\n            refer_to_parts(p, next, &|_| true, j);",
                 "if next[first as usize] < next[second as usize] {\n        return t;",
-                "let mut latest = 1;\n    let mut slot = 2;",
+                "let mut latest = 1;\n    for slot in 2..slots {",
                 "latest = later_slot(marks, next, latest, slot);",
-                "refer_to_parts(p, uses, Use::Last, k);\n    let mut j = k;\n    while 0 < j {",
+                "refer_to_parts(p, uses, &is_none, k);\n    for j in (0..k).rev() {",
                 "if is_lost(p, marks, j) & (uses[j as usize] != 0) {",
-                "sort_at(p, j).is_path() & !is_held(marks, j)",
-                "while r < END {\n        if k < last[r as usize] {\n            uses[r as usize] = END;",
+                "sort_at(p, j).is_path() & !marks.is_held(j)",
+                "for r in 0..END {\n        if k < last[r as usize] {\n            uses[r as usize] = END;",
                 "needed_uses(p, marks, k, uses);\n    keep_later(last, k, uses);\n    uses[END as usize] = 0;",
                 "last[END as usize] = 0;",
             ],
         );
         let marks = include_str!("../../../crates/slots/src/marks.rt");
-        assert_says(marks, &[&format!("if {MOST} < slots {{\n        return {MOST};")]);
+        assert_says(marks, &[&format!("slots.min({MOST}) as u8")]);
     }
 
     /// Slots alone, and who was given one.

@@ -1,39 +1,49 @@
 -- `line::fill` meets its contract: the parts of each report's line stand one behind the other.
 -- Assumes nothing.
-use Rattle.std.proofs.Common.{[], ◌++◌}
+use Rattle.std.proofs.Common.{◌≡◌, List, [], ℕ, ◌++◌, rules}
 use Rattle.wire.specs.Fields.{text}
-use Rattle.line.specs.Line.{number}
-use Rattle.line.specs.Filling.{filled_none, filled_more}
+use Rattle.line.specs.declared.Line.{Line}
+use Rattle.line.specs.Line.{line_of}
+use Rattle.line.specs.Filling.{Put, LineFilled, filled_none, filled_more}
+use Rattle.line.proofs.fill.Goals.{in-Closed, in-Met, in-Unmet, in-Written, in-Refused}
 use Rattle.line.proofs.fill.Goals as goal
 
-pub returns-in-Closed : goal.returns-in-Closed
-returns-in-Closed c =
-    let buf = c.args.buf.now in
-    let h = text "closed" ++ number c.in-Closed.steps ++ number c.in-Closed.clashes in
-    let t = number c.in-Closed.forks in
-    let p = filled_more h t buf _ _ _ _ c.put_pair-third.ensures.filled c.put_number-fourth.ensures.2 c.put_number-fourth.ensures.0 in
-    let q = filled_more (h ++ t) (number c.in-Closed.most) buf _ _ _ _ p c.put_number-end.ensures.2 c.put_number-end.ensures.0 in
-    rw c.in-Closed.is (filled_more (h ++ t ++ number c.in-Closed.most) (text "\n") buf _ _ _ _ q c.put.ensures.1 c.put.ensures.0)
+-- a further part
+more : {front part before bytes after : List ℕ} {at end : ℕ} → LineFilled front before bytes at → Put part bytes at after end
+    → LineFilled (front ++ part) before after end
+more {front} {part} {before} {bytes} {after} {at} {end} h p = filled_more front part before bytes after at end h p.stands p.ends
 
-pub returns-in-Met : goal.returns-in-Met
-returns-in-Met c =
-    let buf = c.args.buf.now in
-    rw c.in-Met.is (filled_more _ (text "\n") buf _ _ _ _ c.put_pair-end.ensures.filled c.put-in-Met.ensures.1 c.put-in-Met.ensures.0)
+-- the buffer that was lent comes back as the line left it
+back : {front before bytes after : List ℕ} {end : ℕ} → after ≡ bytes → LineFilled front before bytes end → LineFilled front before after end
+back e h = rw e h
 
-pub returns-in-Unmet : goal.returns-in-Unmet
-returns-in-Unmet c =
-    let buf = c.args.buf.now in
-    rw c.in-Unmet.is (filled_more [] (text "unmet\n") buf _ _ 0 _ (filled_none buf) c.put-in-Unmet.ensures.1 c.put-in-Unmet.ensures.0)
+pub returns : goal.returns
+returns c = back (search rules) filled
+  where
+    none : LineFilled [] c.args.buf.now c.args.buf.now 0
+    none = filled_none c.args.buf.now
 
-pub returns-in-Written : goal.returns-in-Written
-returns-in-Written c =
-    let buf = c.args.buf.now in
-    let n = number c.in-Written.length in
-    let w = filled_more [] (text "written") buf _ _ 0 _ (filled_none buf) c.put-number.ensures.1 c.put-number.ensures.0 in
-    let p = filled_more (text "written") n buf _ _ _ _ w c.put_number-end-in-Written.ensures.2 c.put_number-end-in-Written.ensures.0 in
-    rw c.in-Written.is (filled_more (text "written" ++ n) (text "\n") buf _ _ _ _ p c.put-in-Written.ensures.1 c.put-in-Written.ensures.0)
+    last : {front : List ℕ} {line : Line} → c.match-report.line ≡ line → LineFilled front c.args.buf.now line.buf.now line.len
+        → LineFilled (front ++ text "\n") c.args.buf.now c.put-2.new.self.buf.now c.put-2.new.self.len
+    last {front} {line} e h = more (rw e h) c.put-2.ensures.put
 
-pub returns-in-Refused : goal.returns-in-Refused
-returns-in-Refused c =
-    let buf = c.args.buf.now in
-    rw c.in-Refused.is (filled_more _ (text "\n") buf _ _ _ _ c.put_pair-end-in-Refused.ensures.filled c.put-in-Refused.ensures.1 c.put-in-Refused.ensures.0)
+    filled : LineFilled (line_of c.args.report) c.args.buf.now c.put-2.new.self.buf.now c.put-2.new.self.len
+    filled = elim c.match-report.branch [
+      | in-Closed w ↦
+          let word = more none w.put.ensures.put in
+          let two = more (more word w.put_number.ensures.put) w.put_number-in-Closed.ensures.put in
+          let four = more (more two w.put_number-in-Closed-2.ensures.put) w.put_number-in-Closed-3.ensures.put in
+          rw w.in-Closed.is (last w.line-is four)
+      | in-Met w ↦
+          let word = more none w.put-in-Met.ensures.put in
+          let two = more (more word w.put_number-in-Met.ensures.put) w.put_number-in-Met-2.ensures.put in
+          rw w.in-Met.is (last w.line-is two)
+      | in-Unmet w ↦ rw w.in-Unmet.is (last w.line-is (more none w.put-in-Unmet.ensures.put))
+      | in-Written w ↦
+          let word = more none w.put-in-Written.ensures.put in
+          rw w.in-Written.is (last w.line-is (more word w.put_number-in-Written.ensures.put))
+      | in-Refused w ↦
+          let word = more none w.put-in-Refused.ensures.put in
+          let two = more (more word w.put_number-in-Refused.ensures.put) w.put_number-in-Refused-2.ensures.put in
+          rw w.in-Refused.is (last w.line-is two)
+    ]

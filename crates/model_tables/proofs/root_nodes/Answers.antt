@@ -11,7 +11,6 @@ tabulate-requires c = record {
   p_value = c.requires.p_value;
   valid_model = c.requires.valid_model;
   names_listed = c.requires.names_listed;
-  model_rows_in_bounds = search rules;
   by_index = λ i u. has_zeros (table_bytes model_rows) i u;
 }
 
@@ -19,7 +18,6 @@ pub tabulate_values-requires : goal.tabulate_values-requires
 tabulate_values-requires c = record {
   p_value = c.requires.p_value;
   valid_model = c.requires.valid_model;
-  alike_rows_in_bounds = search rules;
   by_index = λ i u. has_zeros (table_bytes alike_rows) i u;
 }
 
@@ -32,7 +30,7 @@ root_nodes-requires c =
         alike_long = search rules;
         narrow = omega (arith, n.ensures, c.requires.valid_model.header.narrow);
         some_node = omega (arith, n.ensures, c.requires.valid_model.header.some_node);
-        stands = stands c.args.p.now c.requires.valid_model _ _ n.result n.ensures c.tabulate.ensures c.tabulate_values.ensures;
+        stands = ∣ stands c.args.p.now c.requires.valid_model _ _ n.result n.ensures c.tabulate.ensures c.tabulate_values.ensures ∣₁;
       };
       area_len = c.requires.work_len;
     }

@@ -1,9 +1,10 @@
 -- `path_rows::clause_row` meets its contract, kind by kind.
 -- Assumes nothing.
-use Rattle.std.proofs.Common.{◌≡◌, sym, ◌∙◌, true, ℕ, ◌<◌, rules}
+use Rattle.std.proofs.Common.{◌≡◌, sym, ◌∙◌, Some, true, ℕ, ◌<◌, rules}
 use mathlib.Core.Bool.{false≢true}
 use Rattle.nodeset.specs.declared.NodeSet.{NodeSet}
 use Rattle.nodeset.specs.Set.{has}
+use Rattle.relations.specs.declared.kinds.PathKind.{PathKind}
 use Rattle.relations.specs.Members.{exactly_empty, exactly_union}
 use Rattle.relations.specs.Covered.{Within, within_first}
 use Rattle.path_rows.proofs.clause_row.Goals.{Start}
@@ -18,7 +19,7 @@ asked c s bound =
 
 pub step_row-requires : goal.step_row-requires
 step_row-requires c =
-    let told = c.in-Step.is in
+    let told : c.args.kind ≡ Some PathKind.Step = search rules in
     let bounded = rw told at c.requires.parts.bounded in record {
       model_rows_in_bounds = (c.requires.parts.table_long, rw told at c.requires.parts.within_ranges, search rules);
       within = asked (goal.at.step_row-requires c).Start _ (λ v. bounded c.args.u v c.requires.u_lt_n);
@@ -26,34 +27,42 @@ step_row-requires c =
     }
 
 pub with_name-requires : goal.with_name-requires
-with_name-requires c = record {
-  model_rows_in_bounds = c.requires.parts.table_long;
-  name_le_max_name = rw c.in-Jump.is at c.requires.parts.within_ranges;
-}
+with_name-requires c =
+    let told : c.args.kind ≡ Some PathKind.Jump = search rules in record {
+      model_rows_in_bounds = c.requires.parts.table_long;
+      name_le_max_name = rw told at c.requires.parts.within_ranges;
+    }
 
 pub union_within-requires : goal.union_within-requires
 union_within-requires c =
-    let bounded = rw c.in-Jump.is at c.requires.parts.bounded in
+    let told : c.args.kind ≡ Some PathKind.Jump = search rules in
+    let bounded = rw told at c.requires.parts.bounded in
     asked (goal.at.union_within-requires c).Start _ (λ v m. bounded v (rw c.with_name.ensures at m))
 
 pub returns-then-has : goal.returns-then-has
 returns-then-has c =
-    rw (c.in-Test.is, c.load.ensures) (λ v. (λ h. (sym c.has.ensures ∙ c.if-has.true, h), λ r. r.1))
+    let told : c.args.kind ≡ Some PathKind.Test = search rules in
+    rw (told, c.load.ensures) (λ v. (λ h. (sym c.has.ensures ∙ c.if-has.true, h), λ r. r.1))
 
-pub returns-in-Step : goal.returns-in-Step
-returns-in-Step c = rw c.in-Step.is c.step_row.ensures
+pub returns-in-Some-Step : goal.returns-in-Some-Step
+returns-in-Some-Step c =
+    let told : c.args.kind ≡ Some PathKind.Step = search rules in
+    rw told c.step_row.ensures
 
-pub returns-in-Jump : goal.returns-in-Jump
-returns-in-Jump c = rw c.in-Jump.is (rw c.with_name.ensures at c.union_within.ensures)
+pub returns-in-Some-Jump : goal.returns-in-Some-Jump
+returns-in-Some-Jump c =
+    let told : c.args.kind ≡ Some PathKind.Jump = search rules in
+    rw told (rw c.with_name.ensures at c.union_within.ensures)
 
 pub returns-else-has : goal.returns-else-has
 returns-else-has c =
-    rw (c.in-Test.is, c.empty.ensures)
-    (exactly_empty _ (λ v r. false≢true (sym c.if-has.false ∙ c.has.ensures ∙ r.0)))
+    let told : c.args.kind ≡ Some PathKind.Test = search rules in
+    rw (told, c.empty.ensures) (exactly_empty _ (λ v r. false≢true (sym c.if-has.false ∙ c.has.ensures ∙ r.0)))
 
-pub returns-in-Fork : goal.returns-in-Fork
-returns-in-Fork c =
-    rw (c.in-Fork.is, c.union.ensures, c.load-s.ensures, c.load-in-Fork.ensures) (exactly_union _ _)
+pub returns-in-Some-Fork : goal.returns-in-Some-Fork
+returns-in-Some-Fork c =
+    let told : c.args.kind ≡ Some PathKind.Fork = search rules in
+    rw (told, c.union.ensures, c.load-s.ensures, c.load-in-Some-Fork.ensures) (exactly_union _ _)
 
-pub returns-in-NoPath : goal.returns-in-NoPath
-returns-in-NoPath c = rw (c.in-NoPath.is, c.empty-in-NoPath.ensures) (exactly_empty _ (λ v r. r))
+pub returns-in-None : goal.returns-in-None
+returns-in-None c = rw (c.in-None.is, c.empty-in-None.ensures) (exactly_empty _ (λ v r. r))

@@ -1,21 +1,22 @@
--- `path_rows::compare_rows` meets its contract: of the numbers passed, those whose rows have a pair are collected.
+-- `path_rows::compare_rows` meets its contract: of the nodes below n, those whose rows have a pair are kept.
 -- Assumes nothing.
-use Rattle.std.proofs.Common.{◌≡◌, arith, rules}
-use Rattle.relations.specs.Members.{collected_none, collected_next}
+use Rattle.std.proofs.Common.{◌+◌, ◌<◌, rules}
+use Rattle.nodeset.specs.Stored.{set_at}
+use Rattle.nodeset.specs.Members.{below_inside}
+use Rattle.nodeset.specs.Filtered.{filtered_below}
+use Rattle.relations.specs.Values.{PairFound}
 use Rattle.path_rows.proofs.compare_rows.Goals as goal
 
-pub loop-u-init : goal.loop-u-init
-loop-u-init c = (search rules, λ F on inside. rw c.empty-found.ensures (collected_none _))
-
-pub loop-u-preserved : goal.loop-u-preserved
-loop-u-preserved c =
-    let found = rw (c.load-t.ensures, c.load-s.ensures) at c.some_pair.ensures in (
-      search rules,
-      λ F on inside. rw c.insert_if-found.ensures
-          (collected_next _ c.loop-u.u c.loop-u.found _ (search rules) (found F on (inside c.loop-u.u (search rules))) (c.loop-u.invariant.1 F on inside)),
-    )
+pub filter-requires : goal.filter-requires
+filter-requires c u h =
+    let within : u < c.args.n = below_inside _ u (search rules) (rw c.below.ensures at h) in
+    search rules
 
 pub returns : goal.returns
-returns c =
-    let all : c.loop-u.u ≡ c.args.n = omega (arith, c.loop-u.invariant.0) in
-    λ F on inside. rw all at (c.loop-u.invariant.1 F on inside)
+returns c F on inside =
+    let a = c.args in
+    filtered_below _ _ a.n c.filter.result (search rules)
+    (λ u l b asked.
+    let told : PairFound a.alike.now a.channel a.c (set_at a.rows.now (a.first + u)) (set_at a.rows.now (a.second + u)) b = search rules in
+    told.found F on (inside u l))
+    (rw c.below.ensures at c.filter.ensures)

@@ -1,22 +1,18 @@
--- `path_rows::fill_end` meets its contract: the rows of the numbers passed are filled, each with that number alone.
+-- `path_rows::fill_end` meets its contract: each row gets its number alone.
 -- Assumes nothing.
-use Rattle.std.proofs.Common.{◌≡◌, refl, ◌∙◌, arith, rules}
-use Rattle.nodeset.specs.Stored.{length_put}
-use Rattle.relations.specs.Filled.{filled_none, filled_more, exactly_only}
+use Rattle.std.proofs.Common.{◌≡◌, ℕ, ◌+◌, subst, rules, arith}
+use Rattle.nodeset.specs.Set.{only}
+use Rattle.relations.specs.Filled.{Filled, filled_by, exactly_only}
 use Rattle.path_rows.proofs.fill_end.Goals as goal
-
-pub loop-u-init : goal.loop-u-init
-loop-u-init c = (search rules, refl, filled_none _ _ _)
-
-pub loop-u-preserved : goal.loop-u-preserved
-loop-u-preserved c = (
-  search rules,
-  rw c.store.ensures (length_put _ _ _ ∙ c.loop-u.invariant.1),
-  rw (c.store.ensures, c.only.ensures)
-      (filled_more (λ i. i) (λ i v. v ≡ i) _ _ _ _ (λ j b e. omega (arith, b, e)) (search rules) (exactly_only _ (search rules)) c.loop-u.invariant.2),
-)
 
 pub returns : goal.returns
 returns c =
-    let all : c.loop-u.u ≡ c.args.n = omega (arith, c.loop-u.invariant.0) in
-    rw all at c.loop-u.invariant.2
+    let a = c.args in
+    let from_first : (u : ℕ) → 0 + u ≡ u = λ u. omega arith in
+    subst (λ (row : ℕ → ℕ). Filled row (λ u v. v ≡ u) a.n a.rows.now c.fill.new.rows) (λ i u. from_first u i)
+    (filled_by _ 0 a.rows.now (λ u v. v ≡ u) a.n (search rules)
+    (λ u zs s l same before asked.
+    let says = asked.says in
+    let told : s ≡ only u = search rules in
+    rw told (exactly_only u (search rules)))
+    a.n (search rules) c.fill.new.rows c.fill.ensures)

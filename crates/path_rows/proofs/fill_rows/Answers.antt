@@ -1,61 +1,68 @@
--- `path_rows::fill_rows` meets its contract: the rows of the nodes passed are filled, and those that they are made from stay.
+-- `path_rows::fill_rows` meets its contract: the rows that the others are made from stay.
 -- Assumes nothing.
-use Rattle.std.proofs.Common.{◌≡◌, refl, ◌∙◌, ◌↔◌, ℕ, ◌+◌, ◌<◌, arith, rules}
+use Rattle.std.proofs.Common.{◌≡◌, List, ℕ, length, ◌+◌, ◌≤◌, ◌<◌, arith, rules}
 use Rattle.nodeset.specs.declared.NodeSet.{NodeSet}
 use Rattle.nodeset.specs.Members.{HasExactly}
-use Rattle.nodeset.specs.Stored.{set_at, length_put}
-use Rattle.relations.specs.Filled.{filled_none, filled_more}
-use Rattle.path_rows.specs.Paths.{Apart, RowBy, apart_kept, covers_kept, parts_kept, rows_same}
-use Rattle.path_rows.proofs.fill_rows.Goals.{At-loop-u}
+use Rattle.nodeset.specs.Stored.{set_at}
+use Rattle.relations.specs.Covered.{Covers}
+use Rattle.relations.specs.Filled.{Filled, FilledBy, filled_by, filled_by_long}
+use Rattle.path_rows.specs.Paths.{Apart, Parts, RowBy, FilledBelow, apart_kept, covers_kept, parts_kept, rows_same}
+use Rattle.path_rows.proofs.fill_rows.Goals.{After-reach-all}
 use Rattle.path_rows.proofs.fill_rows.Goals as goal
 
+-- the rows of the nodes below k are made, and the others stay
+abbrev MadeBelow : After-reach-all → ℕ → List ℕ → Type 0
+MadeBelow c k zs =
+    let a = c.args in
+    Filled (λ i. a.at + i) (RowBy a.kind a.table.now a.rows.now a.x a.held a.first a.second) k a.rows.now zs
+
 -- rows that are apart from those that it fills are as they were
-kept : (c : At-loop-u) (from : ℕ)
+kept : (c : After-reach-all) (k : ℕ) (zs : List ℕ) → k ≤ c.args.n → MadeBelow c k zs → (from : ℕ)
     → let a = c.args in
-    Apart a.n from a.at → (i : ℕ) → i < a.n → set_at c.loop-u.rows (from + i) ≡ set_at a.rows.now (from + i)
-kept c from apart =
+    Apart a.n from a.at → (i : ℕ) → i < a.n → set_at zs (from + i) ≡ set_at a.rows.now (from + i)
+kept c k zs l made from apart =
     let a = c.args in
-    apart_kept _ a.n c.loop-u.u from a.at a.rows.now c.loop-u.rows apart c.loop-u.invariant.0 c.loop-u.invariant.2
+    apart_kept _ a.n k from a.at a.rows.now zs apart l made
 
--- so that the row of a node is by them what it was by the rows at entry
-same : (c : At-loop-u)
+-- so that a rule that goes by the rows as they are by then makes what it would make by those at entry
+made_by : (c : After-reach-all) (rule : List ℕ → ℕ → NodeSet → Type 0)
     → let a = c.args in
-    (i : ℕ) → i < a.n → (s : NodeSet) → HasExactly (RowBy a.kind a.table.now c.loop-u.rows a.x a.held a.first a.second i) s
-    ↔ HasExactly (RowBy a.kind a.table.now a.rows.now a.x a.held a.first a.second i) s
-same c =
+    ((u : ℕ) (zs : List ℕ) (s : NodeSet) → rule zs u s → HasExactly (RowBy a.kind a.table.now zs a.x a.held a.first a.second u) s)
+    → (u : ℕ) → u ≤ a.n → (ys : List ℕ) → FilledBy rule a.at u a.rows.now ys → MadeBelow c u ys
+made_by c rule gives =
     let a = c.args in
-    rows_same a.table.now a.n a.x a.held a.first a.second a.kind c.requires.parts.bounded a.rows.now c.loop-u.rows
-    (kept c a.first c.requires.apart.0) (kept c a.second c.requires.apart.1)
+    filled_by rule a.at a.rows.now _ a.n c.requires.rows_fit
+    (λ u zs s l same before asked.
+    let low : u ≤ a.n = omega (arith, l) in
+    (rows_same a.table.now a.n a.x a.held a.first a.second a.kind c.requires.parts.bounded a.rows.now zs
+    (kept c u zs low before a.first c.requires.apart.0) (kept c u zs low before a.second c.requires.apart.1) u l s).0 (gives u zs s asked))
 
-pub reach-all-requires : goal.reach-all-requires
-reach-all-requires c =
-    (c.requires.parts.narrow, c.requires.parts.second_fits)
-
-pub loop-u-init : goal.loop-u-init
-loop-u-init c = (search rules, refl, filled_none _ _ _)
-
-pub clause_row-s-requires : goal.clause_row-s-requires
-clause_row-s-requires c =
+-- and there is what it asks for
+asked : (c : After-reach-all) (u : ℕ) (zs : List ℕ)
+    → let a = c.args in
+    u < a.n → length zs ≡ length a.rows.now → MadeBelow c u zs
+    → Parts a.table.now zs a.n a.kind a.x a.first a.second × Covers zs a.n a.second c.reach-all.result × (u < a.n)
+    × FilledBelow (RowBy a.kind a.table.now zs a.x a.held a.first a.second) zs a.at u
+asked c u zs l same made =
     let a = c.args in
-    let all = c.reach-all in
-    let second = kept (goal.at.clause_row-s-requires c).At-loop-u a.second c.requires.apart.1 in record {
-      parts = parts_kept a.table.now a.rows.now c.loop-u.rows a.n a.kind a.x a.first a.second c.loop-u.invariant.1 c.requires.parts;
-      covers = covers_kept a.n a.second all.result a.rows.now c.loop-u.rows second all.ensures;
-      u_lt_n = search rules;
-      filled_below = (search rules, λ w b. (same (goal.at.clause_row-s-requires c).At-loop-u w (search rules) _).1 (c.loop-u.invariant.2.rows w b));
-    }
-
-pub loop-u-preserved : goal.loop-u-preserved
-loop-u-preserved c =
-    let a = c.args in
-    let row = (same (goal.at.loop-u-preserved c).At-loop-u c.loop-u.u (search rules) _).0 c.clause_row-s.ensures in (
-      search rules,
-      rw c.store.ensures (length_put _ _ _ ∙ c.loop-u.invariant.1),
-      rw c.store.ensures
-          (filled_more (λ i. a.at + i) _ _ _ _ _ (λ j b e. omega (arith, b, e)) (search rules) row c.loop-u.invariant.2),
+    let low : u ≤ a.n = omega (arith, l) in
+    let first = kept c u zs low made a.first c.requires.apart.0 in
+    let second = kept c u zs low made a.second c.requires.apart.1 in (
+      parts_kept a.table.now a.rows.now zs a.n a.kind a.x a.first a.second same c.requires.parts,
+      covers_kept a.n a.second c.reach-all.result a.rows.now zs second c.reach-all.ensures,
+      l,
+      (omega (arith, l, same, c.requires.rows_fit), λ w b. (rows_same a.table.now a.n a.x a.held a.first a.second a.kind c.requires.parts.bounded a.rows.now zs first second w (omega (arith, b, l)) _).1 (made.rows w b)),
     )
+
+pub fill-requires-clause-callable : goal.fill-requires-clause-callable
+fill-requires-clause-callable c u made l f =
+    let at = (goal.at.fill-requires-clause-callable c).After-reach-all in
+    let before = made_by at _ (λ v zs s says. let told = says.says in search rules) u (omega (arith, l)) made.now f in
+    let there = asked at u made.now l (filled_by_long _ _ _ u made.now f) before in
+    search there
 
 pub returns : goal.returns
 returns c =
-    let all : c.loop-u.u ≡ c.args.n = omega (arith, c.loop-u.invariant.0) in
-    rw all at c.loop-u.invariant.2
+    made_by (goal.at.returns c).After-reach-all _
+    (λ u zs s says. let told = says.says in search rules)
+    c.args.n (search rules) c.fill.new.rows c.fill.ensures

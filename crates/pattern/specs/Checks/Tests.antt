@@ -1,6 +1,6 @@
 -- What the outcome of a test that is put together of two says of each, and back.
 -- Assumes nothing.
-use Rattle.std.specs.Prelude.{◌≡◌, refl, Bool, true, false, ◌&&◌, ◌||◌, ◌↔◌, ◌⊎◌, ℕ, eqb}
+use Rattle.std.specs.Prelude.{Result, Ok, Err, IsErrAnd, ◌≡◌, refl, Bool, true, false, ◌&&◌, ◌||◌, ◌↔◌, ◌⊎◌, ℕ, eqb}
 use Rattle.std.proofs.Common.{sym, ap, ◌∙◌, inl, inr, eqb-true, eq-eqb, ne_eqb}
 use Rattle.std.proofs.Math.Bool.{or-true, or-false}
 use Rattle.std.proofs.lemmas.Bool.{eqb-false}
@@ -41,3 +41,8 @@ turned v w b = go (eqb w v) refl
     go : (t : Bool) → eqb w v ≡ t → eqb v w || b ≡ b || eqb w v
     go true e = rw (e, eq-eqb v w (sym (eqb-true w v e))) (sym (or-true b))
     go false e = rw (e, ne_eqb v w (λ p. eqb-false w v e (sym p))) (sym (or-false b))
+
+-- what `?` hands back of an error is that error
+pub err_is : {A E : Type 0} (r : Result A E) (e : E) → IsErrAnd r (λ f. f ≡ e) → r ≡ Err e
+err_is (Ok a) e h = absurd h
+err_is (Err f) e h = ap Err h

@@ -1,12 +1,11 @@
 -- Reading a pattern: 01's refusals 1 to 8, in its order, as an executable definition.
 -- Assumes nothing.
-use Rattle.std.specs.Prelude.{Bool, true, not, ◌||◌, List, ℕ, ◌+◌, ◌-◌, ◌*◌, length, get_or, leb, ltb, eqb}
+use Rattle.std.specs.Prelude.{Bool, true, not, ◌||◌, List, ℕ, ◌+◌, ◌-◌, ◌*◌, length, get_or, leb, ltb, eqb, Result, Ok, Err}
 use Rattle.wire.specs.Choice.{pick}
 use Rattle.wire.specs.Fields.{text, begins_with, word_at}
 use Rattle.pattern.specs.declared.table.Sort.{Sort}
 use Rattle.pattern.specs.declared.table.Field.{Field}
 use Rattle.pattern.specs.declared.finding.PatternRefusal.{PatternRefusal}
-use Rattle.pattern.specs.declared.finding.PatternRead.{PatternRead}
 use Rattle.pattern.specs.File.Types.{max_name, max_property, max_axis, max_channel}
 use Rattle.pattern.specs.Checks.Finding.{Finding, found, refused, Check, refuses_if, ◌then◌, unless}
 use Rattle.pattern.specs.Checks.Range.{some_below, each_below}
@@ -117,6 +116,6 @@ abbrev pub refusal_place : PatternRefusal → ℕ
 refusal_place refusal = (refusal_of refusal).1
 
 -- the finding of reading
-abbrev pub finding_of : PatternRead → Finding ℕ
-finding_of (PatternRead.Read n) = found n
-finding_of (PatternRead.Refused refusal) = refused (refusal_number refusal) (refusal_place refusal)
+abbrev pub finding_of : Result ℕ PatternRefusal → Finding ℕ
+finding_of (Ok n) = found n
+finding_of (Err refusal) = refused (refusal_number refusal) (refusal_place refusal)

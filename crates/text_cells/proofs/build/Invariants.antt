@@ -4,7 +4,4 @@ use Rattle.text_cells.specs.Held.{Going}
 use Rattle.text_cells.proofs.build.Given as goal
 
 abbrev pub invariant-loop-i : goal.invariant-loop-i
-invariant-loop-i l = Going l.tokens l.n l.initial.cells l.cells l.items l.at l.count l.i
-
-abbrev pub decreases-loop-i : goal.decreases-loop-i
-decreases-loop-i l = l.i
+invariant-loop-i l = Going l.tokens l.n l.initial.cells l.cells l.items l.built.at l.built.count l.i

@@ -1,41 +1,32 @@
 -- `text_cells::take_token` meets its contract: `marks_took` and `cell_took`.
 -- Assumes nothing.
-use Rattle.std.proofs.Common.{arith}
-use Rattle.text_cells.specs.Held.{taken_few_of, put_few_of, marks_took, cell_took}
+use Rattle.std.proofs.Common.{refl, sym, ◌∙◌, arith, length-set}
+use Rattle.text_cells.specs.Held.{marks_took, one_stored, both_stored, cell_took}
 use Rattle.text_cells.proofs.take_token.Goals as goal
 
-pub overflow_sub-result : goal.overflow_sub-result
-overflow_sub-result c =
-    let few = put_few_of c.marks_by-marks.result _ _ _ _ c.marks_by-marks.ensures in
-    omega (arith, few, c.requires)
-
-pub returns-then-made-eq0 : goal.returns-then-made-eq0
-returns-then-made-eq0 c =
-    marks_took c.args.word c.args.count c.args.cells.now c.args.items.now c.args.at c.requires.1 (omega (arith, c.requires))
-    c.made_by-made.result c.marks_by-marks.result c.made_by-made.ensures c.marks_by-marks.ensures c.if-made-eq0.true
-
-pub overflow_add-above : goal.overflow_add-above
-overflow_add-above c =
-    let few = taken_few_of c.made_by-made.result _ _ _ _ _ c.made_by-made.ensures in
-    omega (arith, few.takes_few, c.requires)
-
-pub overflow_add-items-2 : goal.overflow_add-items-2
-overflow_add-items-2 c =
-    let few = taken_few_of c.made_by-made.result _ _ _ _ _ c.made_by-made.ensures in
-    omega (arith, few.takes_few, few.tag_few, c.requires)
-
-pub offset_bounds-items-above : goal.offset_bounds-items-above
-offset_bounds-items-above c =
-    let few = taken_few_of c.made_by-made.result _ _ _ _ _ c.made_by-made.ensures in
-    omega (arith, few.takes_few, few.tag_few, c.requires)
-
-pub bounds-items-above : goal.bounds-items-above
-bounds-items-above c =
-    let few = taken_few_of c.made_by-made.result _ _ _ _ _ c.made_by-made.ensures in
-    omega (arith, few.takes_few, few.tag_few, c.requires)
-
-pub returns : goal.returns
-returns c =
+pub returns-in-Some : goal.returns-in-Some
+returns-in-Some c =
+    let a = c.args in
     rw c.store.ensures
-    (cell_took c.args.word c.args.count c.args.cells.now c.args.items.now c.args.at c.requires.1 (omega (arith, c.requires))
-    c.made_by-made.result c.made_by-made.ensures c.if-made-eq0.false c.requires.3)
+    (cell_took a.word a.built.count a.cells.now a.items.now a.built.at c.requires.1 (omega (arith, c.requires)) c.in-Some.made
+    (sym c.in-Some.is ∙ c.made_by.ensures.made) c.requires.3)
+
+pub returns-in-Nothing : goal.returns-in-Nothing
+returns-in-Nothing c =
+    let a = c.args in
+    marks_took a.word a.built.count a.cells.now a.items.now a.built.at _ (sym c.in-Nothing.is ∙ c.marks_by.ensures)
+    (sym c.in_default.is ∙ c.made_by.ensures.made) a.built.at a.items.now (omega arith) (omega arith) refl refl
+
+pub returns-in-One : goal.returns-in-One
+returns-in-One c =
+    let a = c.args in
+    marks_took a.word a.built.count a.cells.now a.items.now a.built.at _ (sym c.in-One.is ∙ c.marks_by.ensures)
+    (sym c.in_default.is ∙ c.made_by.ensures.made) _ _ (omega arith) (omega arith) (simp length-set)
+    (one_stored a.word a.built.count a.cells.now a.items.now a.built.at c.requires.1 (omega (arith, c.requires)) _)
+
+pub returns-in-Two : goal.returns-in-Two
+returns-in-Two c =
+    let a = c.args in
+    marks_took a.word a.built.count a.cells.now a.items.now a.built.at _ (sym c.in-Two.is ∙ c.marks_by.ensures)
+    (sym c.in_default.is ∙ c.made_by.ensures.made) _ _ (omega arith) (omega arith) (simp length-set)
+    (both_stored a.word a.built.count a.cells.now a.items.now a.built.at c.requires.1 (omega (arith, c.requires)) _ _)

@@ -1,154 +1,86 @@
 -- `text_entries::complete` meets its contract: what lies on the stack completes to the root's entries, step by step (`Stack`).
 -- Assumes nothing.
-use Rattle.std.proofs.Common.{◌≡◌, sym, ap, subst, ◌∙◌, ◌-◌, ◌≤◌, arith, List, lt-ltb, le-ltb, length, take, take_all}
+use Rattle.std.proofs.Common.{◌≡◌, sym, ap, subst, ◌∙◌, ◌≤◌, arith, List, Ok, length, take, take_all}
 use Rattle.wire.specs.Onto.{onto}
 use Rattle.typed_file.specs.Entries.{Entry, entries_of, entry_bytes}
-use Rattle.text_entries.specs.declared.Entries.{Entries}
 use Rattle.typed_file.specs.Trees.{Tree}
-use Rattle.text_cells.specs.Cells.{CellIs, cell_once}
-use Rattle.text_entries.specs.Completing.{counted_as}
-use Rattle.text_entries.specs.Stack.{head, cell_below, cell_is, going_start, going_end, going_open, entries_long, kind_small, full_step, few_step, placed_step}
+use Rattle.text_cells.specs.Cells.{cell_once}
+use Rattle.text_entries.specs.Completing.{counted_as, told_many, told_all}
+use Rattle.text_entries.specs.Stack.{head, cell_is, going_start, going_end, going_open, entries_long, kind_small, full_step, placed_step}
 use Rattle.text_entries.proofs.complete.Goals as goal
 
 pub loop-at-init : goal.loop-at-init
 loop-at-init c =
-    (c.requires.cell_is.0, (c.requires.cell_is.1, going_start c.args.cells.now c.args.entries.now c.requires.cell_is.0 c.requires.entries_len c.args.count c.requires.le_count.0 c.requires.le_count.1 c.requires.cell_is.1))
+    let r = c.requires in
+    (r.cell_is.0, (r.cell_is.1, going_start r.entries_len c.args.count r.le_count.0 r.le_count.1 r.cell_is.1))
 
-pub bounds-stack-at-in-loop-at : goal.bounds-stack-at-in-loop-at
-bounds-stack-at-in-loop-at c = omega (arith, c.loop-at-test.true, c.loop-at.invariant.1.1.stack_long)
+pub overflow_sub-at-in-Err : goal.overflow_sub-at-in-Err
+overflow_sub-at-in-Err c =
+    (going_open c.requires.entries_len c.loop-at.invariant.1.1 c.loop-at-test.true c.in-Err.field-0 (sym c.fields_of.ensures ∙ c.in-Err.is)).0
 
-pub fields_of-requires : goal.fields_of-requires
-fields_of-requires c =
-    let l = c.loop-at in
-    let g = l.invariant.1.1 in
-    let below = c.loop-at-test.true in record {
-      cell_bound = cell_below c.args.cells.now c.args.entries.now l.invariant.0 c.requires.entries_len l.numbers l.stack l.entries l.at l.n g below;
-      cell_is = ((head c.args.cells.now c.args.entries.now l.invariant.0 c.requires.entries_len l.numbers l.stack l.entries l.at l.n g below).top, cell_is c.args.cells.now c.args.entries.now l.invariant.0 c.requires.entries_len l.numbers l.stack l.entries l.at l.n g below);
-    }
-
-pub overflow_sub-at-in-Open : goal.overflow_sub-at-in-Open
-overflow_sub-at-in-Open c =
-    let l = c.loop-at in
-    let g = l.invariant.1.1 in
-    (going_open c.args.cells.now c.args.entries.now l.invariant.0 c.requires.entries_len l.numbers l.stack l.entries l.at l.n g c.loop-at-test.true c.in-Open.part (sym c.fields_of.ensures ∙ c.in-Open.is)).0
-
-pub offset_bounds-stack-at-in-Open : goal.offset_bounds-stack-at-in-Open
-offset_bounds-stack-at-in-Open c = omega (arith, c.loop-at-test.true)
-
-pub bounds-stack-at-in-Open : goal.bounds-stack-at-in-Open
-bounds-stack-at-in-Open c = omega (arith, c.loop-at-test.true, c.loop-at.invariant.1.1.stack_long)
-
-pub loop-at-smaller-in-Open : goal.loop-at-smaller-in-Open
-loop-at-smaller-in-Open c =
-    let l = c.loop-at in
-    let g = l.invariant.1.1 in
-    let some = (going_open c.args.cells.now c.args.entries.now l.invariant.0 c.requires.entries_len l.numbers l.stack l.entries l.at l.n g c.loop-at-test.true c.in-Open.part (sym c.fields_of.ensures ∙ c.in-Open.is)).0 in
+pub loop-at-smaller-in-Err : goal.loop-at-smaller-in-Err
+loop-at-smaller-in-Err c =
+    let some = (going_open c.requires.entries_len c.loop-at.invariant.1.1 c.loop-at-test.true c.in-Err.field-0 (sym c.fields_of.ensures ∙ c.in-Err.is)).0 in
     omega (arith, some)
 
-pub loop-at-preserved-in-Open : goal.loop-at-preserved-in-Open
-loop-at-preserved-in-Open c =
-    let l = c.loop-at in
-    let g = l.invariant.1.1 in
-    (l.invariant.0, (l.invariant.1.0, (going_open c.args.cells.now c.args.entries.now l.invariant.0 c.requires.entries_len l.numbers l.stack l.entries l.at l.n g c.loop-at-test.true c.in-Open.part (sym c.fields_of.ensures ∙ c.in-Open.is)).1))
+pub loop-at-preserved-in-Err : goal.loop-at-preserved-in-Err
+loop-at-preserved-in-Err c =
+    let i = c.loop-at.invariant in
+    (i.0, (i.1.0, (going_open c.requires.entries_len i.1.1 c.loop-at-test.true c.in-Err.field-0 (sym c.fields_of.ensures ∙ c.in-Err.is)).1))
 
-pub kind_of-requires : goal.kind_of-requires
-kind_of-requires c =
-    let l = c.loop-at in
-    let g = l.invariant.1.1 in
-    let below = c.loop-at-test.true in record {
-      cell_bound = cell_below c.args.cells.now c.args.entries.now l.invariant.0 c.requires.entries_len l.numbers l.stack l.entries l.at l.n g below;
-      cell_bound_2 = kind_small c.args.cells.now (head c.args.cells.now c.args.entries.now l.invariant.0 c.requires.entries_len l.numbers l.stack l.entries l.at l.n g below).top _ (cell_is c.args.cells.now c.args.entries.now l.invariant.0 c.requires.entries_len l.numbers l.stack l.entries l.at l.n g below);
-    }
+pub kind_of-requires-clause-cell_bound_2 : goal.kind_of-requires-clause-cell_bound_2
+kind_of-requires-clause-cell_bound_2 c =
+    let g = c.loop-at.invariant.1.1 in
+    kind_small c.args.cells.now (head c.requires.entries_len g c.loop-at-test.true).top _ (cell_is c.requires.entries_len g c.loop-at-test.true)
 
-pub place-number-requires : goal.place-number-requires
-place-number-requires c =
-    let l = c.loop-at in
-    let g = l.invariant.1.1 in record {
-      entries_len = entries_long c.args.cells.now c.args.entries.now l.invariant.0 c.requires.entries_len l.numbers l.stack l.entries l.at l.n g;
-      n_bound = g.few;
-    }
+pub place-requires : goal.place-requires
+place-requires c = entries_long c.requires.entries_len c.loop-at.invariant.1.1
 
-pub returns-then-number-eq-ENTRIES : goal.returns-then-number-eq-ENTRIES
-returns-then-number-eq-ENTRIES c =
-    let l = c.loop-at in
-    let g = l.invariant.1.1 in
-    let full = full_step c.args.cells.now c.args.entries.now l.invariant.0 c.requires.entries_len l.numbers l.stack l.entries l.at l.n g c.loop-at-test.true c.in-Numbered.x c.in-Numbered.y c.in-Numbered.z (sym c.fields_of.ensures ∙ c.in-Numbered.is)
-    c.kind_of.result c.place-number.result c.place-number.new.entries c.kind_of.ensures c.place-number.ensures.number c.place-number.ensures.entries c.if-number-eq-ENTRIES.true in record {
-      answer = λ t is. subst (λ (u : Tree). Entries.TooMany ≡ counted_as (length (entries_of u))) (cell_once l.invariant.0 t c.args.cells.now _ l.invariant.1.0 is)
-          (rw (lt-ltb 255 (length (entries_of l.invariant.0)) full.0));
-      bytes = λ t is. subst (λ (u : Tree). c.place-number.new.entries ≡ onto (entry_bytes (take 255 (entries_of u))) c.args.entries.now)
-          (cell_once l.invariant.0 t c.args.cells.now _ l.invariant.1.0 is) full.1;
-    }
+pub returns-in_err-number-in-Ok-clause-answer : goal.returns-in_err-number-in-Ok-clause-answer
+returns-in_err-number-in-Ok-clause-answer c =
+    let i = c.loop-at.invariant in
+    let full = full_step c.requires.entries_len i.1.1 c.loop-at-test.true c.in-Ok.fields (sym c.fields_of.ensures ∙ c.in-Ok.is) c.kind_of.result
+    c.place.result c.place.new.entries c.kind_of.ensures c.place.ensures.number c.place.ensures.entries c.in_err-number-in-Ok.field-0.0 c.in_err-number-in-Ok.was in
+    λ t is. subst (λ (u : Tree). c.from_residual.result ≡ counted_as (length (entries_of u))) (cell_once i.0 t c.args.cells.now _ i.1.0 is)
+    (told_many c.from_residual.result (length (entries_of i.0)) c.from_residual.ensures.0 full.0)
 
-pub count_after-n-requires : goal.count_after-n-requires
-count_after-n-requires c = c.loop-at.invariant.1.1.few
-
-pub overflow_add-numbers : goal.overflow_add-numbers
-overflow_add-numbers c =
-    let l = c.loop-at in
-    let g = l.invariant.1.1 in
-    let few = few_step c.args.cells.now c.args.entries.now l.invariant.0 c.requires.entries_len l.numbers l.stack l.entries l.at l.n g c.loop-at-test.true c.in-Numbered.x c.in-Numbered.y c.in-Numbered.z (sym c.fields_of.ensures ∙ c.in-Numbered.is)
-    c.kind_of.result c.place-number.result c.place-number.new.entries c.kind_of.ensures c.place-number.ensures.number c.place-number.ensures.entries c.if-number-eq-ENTRIES.false in
-    omega (arith, few)
-
-pub overflow_cast-numbers : goal.overflow_cast-numbers
-overflow_cast-numbers c =
-    let l = c.loop-at in
-    let g = l.invariant.1.1 in
-    let few = few_step c.args.cells.now c.args.entries.now l.invariant.0 c.requires.entries_len l.numbers l.stack l.entries l.at l.n g c.loop-at-test.true c.in-Numbered.x c.in-Numbered.y c.in-Numbered.z (sym c.fields_of.ensures ∙ c.in-Numbered.is)
-    c.kind_of.result c.place-number.result c.place-number.new.entries c.kind_of.ensures c.place-number.ensures.number c.place-number.ensures.entries c.if-number-eq-ENTRIES.false in
-    omega (arith, few)
-
-pub overflow_cast-numbers-in-Numbered : goal.overflow_cast-numbers-in-Numbered
-overflow_cast-numbers-in-Numbered c =
-    let l = c.loop-at in
-    let g = l.invariant.1.1 in
-    let below = cell_below c.args.cells.now c.args.entries.now l.invariant.0 c.requires.entries_len l.numbers l.stack l.entries l.at l.n g c.loop-at-test.true in
-    omega (arith, below)
-
-pub bounds-numbers-cell : goal.bounds-numbers-cell
-bounds-numbers-cell c =
-    let l = c.loop-at in
-    let g = l.invariant.1.1 in
-    let below = cell_below c.args.cells.now c.args.entries.now l.invariant.0 c.requires.entries_len l.numbers l.stack l.entries l.at l.n g c.loop-at-test.true in
-    omega (arith, below, g.numbers_long)
-
-pub overflow_add-at : goal.overflow_add-at
-overflow_add-at c = omega (arith, c.loop-at-test.true)
+pub returns-in_err-number-in-Ok-clause-bytes : goal.returns-in_err-number-in-Ok-clause-bytes
+returns-in_err-number-in-Ok-clause-bytes c =
+    let i = c.loop-at.invariant in
+    let full = full_step c.requires.entries_len i.1.1 c.loop-at-test.true c.in-Ok.fields (sym c.fields_of.ensures ∙ c.in-Ok.is) c.kind_of.result
+    c.place.result c.place.new.entries c.kind_of.ensures c.place.ensures.number c.place.ensures.entries c.in_err-number-in-Ok.field-0.0 c.in_err-number-in-Ok.was in
+    λ t is. subst (λ (u : Tree). c.place.new.entries ≡ onto (entry_bytes (take 255 (entries_of u))) c.args.entries.now)
+    (cell_once i.0 t c.args.cells.now _ i.1.0 is) full.1
 
 pub loop-at-smaller : goal.loop-at-smaller
 loop-at-smaller c =
-    let l = c.loop-at in
-    let g = l.invariant.1.1 in
-    let done = placed_step c.args.cells.now c.args.entries.now l.invariant.0 c.requires.entries_len l.numbers l.stack l.entries l.at l.n g c.loop-at-test.true c.in-Numbered.x c.in-Numbered.y c.in-Numbered.z (sym c.fields_of.ensures ∙ c.in-Numbered.is)
-    c.kind_of.result c.place-number.result c.place-number.new.entries c.kind_of.ensures c.place-number.ensures.number c.place-number.ensures.entries _ c.count_after-n.ensures c.if-number-eq-ENTRIES.false in
+    let done = placed_step c.requires.entries_len c.loop-at.invariant.1.1 c.loop-at-test.true c.in-Ok.fields (sym c.fields_of.ensures ∙ c.in-Ok.is) c.kind_of.result
+    c.place.result c.place.new.entries c.kind_of.ensures c.place.ensures.number c.place.ensures.entries _ _ c.in_ok-number-in-Ok.was c.count_after-n.ensures in
     omega (arith, done.1, c.loop-at-test.true)
 
 pub loop-at-preserved : goal.loop-at-preserved
 loop-at-preserved c =
-    let l = c.loop-at in
-    let g = l.invariant.1.1 in (
-      l.invariant.0,
+    let i = c.loop-at.invariant in (
+      i.0,
       (
-        l.invariant.1.0,
-        (placed_step c.args.cells.now c.args.entries.now l.invariant.0 c.requires.entries_len l.numbers l.stack l.entries l.at l.n g c.loop-at-test.true c.in-Numbered.x c.in-Numbered.y c.in-Numbered.z (sym c.fields_of.ensures ∙ c.in-Numbered.is)
-            c.kind_of.result c.place-number.result c.place-number.new.entries c.kind_of.ensures c.place-number.ensures.number c.place-number.ensures.entries _ c.count_after-n.ensures c.if-number-eq-ENTRIES.false).0,
+        i.1.0,
+        (placed_step c.requires.entries_len i.1.1 c.loop-at-test.true c.in-Ok.fields (sym c.fields_of.ensures ∙ c.in-Ok.is) c.kind_of.result
+            c.place.result c.place.new.entries c.kind_of.ensures c.place.ensures.number c.place.ensures.entries _ _ c.in_ok-number-in-Ok.was c.count_after-n.ensures).0,
       ),
     )
 
-pub overflow_cast-result : goal.overflow_cast-result
-overflow_cast-result c = omega (arith, c.loop-at.invariant.1.1.few)
+pub returns-clause-answer : goal.returns-clause-answer
+returns-clause-answer c =
+    let i = c.loop-at.invariant in
+    let end = going_end c.requires.entries_len i.1.1 c.loop-at-test.false in
+    λ t is. subst (λ (u : Tree). Ok c.loop-at.n ≡ counted_as (length (entries_of u))) (cell_once i.0 t c.args.cells.now _ i.1.0 is)
+    (told_all c.loop-at.n (length (entries_of i.0)) end.0 i.1.1.few)
 
-pub returns : goal.returns
-returns c =
-    let l = c.loop-at in
-    let g = l.invariant.1.1 in
-    let end = going_end c.args.cells.now c.args.entries.now l.invariant.0 c.requires.entries_len l.numbers l.stack l.entries l.at l.n g c.loop-at-test.false in
-    let same : (t : Tree) → CellIs c.args.cells.now (c.args.count - 1) t → l.invariant.0 ≡ t
-    = λ t is. cell_once l.invariant.0 t c.args.cells.now (c.args.count - 1) l.invariant.1.0 is in
-    let few : length (entries_of l.invariant.0) ≤ 255 = omega (arith, end.0, g.few) in record {
-      answer = λ t is. subst (λ (u : Tree). Entries.Complete l.n ≡ counted_as (length (entries_of u))) (same t is)
-          (rw (le-ltb 255 (length (entries_of l.invariant.0)) few) (ap Entries.Complete end.0));
-      bytes = λ t is. subst (λ (u : Tree). l.entries ≡ onto (entry_bytes (take 255 (entries_of u))) c.args.entries.now) (same t is)
-          (end.1 ∙ ap (λ (es : List Entry). onto (entry_bytes es) c.args.entries.now) (sym (take_all 255 (entries_of l.invariant.0) few)));
-    }
+pub returns-clause-bytes : goal.returns-clause-bytes
+returns-clause-bytes c =
+    let i = c.loop-at.invariant in
+    let end = going_end c.requires.entries_len i.1.1 c.loop-at-test.false in
+    let few : length (entries_of i.0) ≤ 255 = omega (arith, end.0, i.1.1.few) in
+    λ t is. subst (λ (u : Tree). c.loop-at.entries ≡ onto (entry_bytes (take 255 (entries_of u))) c.args.entries.now)
+    (cell_once i.0 t c.args.cells.now _ i.1.0 is)
+    (end.1 ∙ ap (λ (es : List Entry). onto (entry_bytes es) c.args.entries.now) (sym (take_all 255 (entries_of i.0) few)))

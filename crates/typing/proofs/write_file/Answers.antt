@@ -1,7 +1,7 @@
 -- `typing::write_file` meets its contract: header and entries are stored one behind the other, `both_written`.
 -- Assumes nothing.
-use Rattle.std.proofs.Common.{◌≡◌, sym, ap, ◌∙◌, List, [], ◌∷◌, ℕ, ◌+◌, ◌*◌, arith, length}
-use Rattle.wire.specs.Blocks.{put_from, length_from}
+use Rattle.std.proofs.Common.{◌≡◌, sym, ap, ◌∙◌, List, ℕ, ◌+◌, ◌*◌, arith, length}
+use Rattle.wire.specs.Blocks.{put_from}
 use Rattle.pattern.specs.Checks.Finding.{Finding, found, written, destination_after}
 use Rattle.typing.specs.Written.{file_with, front, front_four, within_short, within_enough, both_written}
 use Rattle.typing.proofs.write_file.Goals as goal
@@ -12,15 +12,6 @@ returns-then-out-bytes c =
       finding = sym (ap written is);
       destination = sym (ap (λ (f : Finding (List ℕ)). destination_after f c.args.out.now) is);
     }
-
-pub slice_bounds-copy_at-end-2 : goal.slice_bounds-copy_at-end-2
-slice_bounds-copy_at-end-2 c =
-    sym (front_four c.args.entries.now c.args.n c.requires)
-
-pub copy_at-requires-2 : goal.copy_at-requires-2
-copy_at-requires-2 c =
-    let same = ap length c.copy_at.ensures ∙ length_from c.args.out.now 0 0 (80 ∷ 65 ∷ 84 ∷ 1 ∷ 0 ∷ c.args.n ∷ []) in
-    omega (arith, same, front_four c.args.entries.now c.args.n c.requires, c.if-out-bytes.false)
 
 pub returns : goal.returns
 returns c =

@@ -1,24 +1,22 @@
--- `wire::begins` meets its contract: the loop passes the bytes that agree, and the laws of `begins_with` answer each way out.
+-- `wire::begins` meets its contract: std's `starts_with` asks the same of each byte, from the mark's side.
 -- Assumes nothing.
-use Rattle.std.proofs.Common.{rules, ◌-◌, sym, below_none, below_more, arith}
-use Rattle.wire.specs.Fields.{begins_short, begins_differs, begins_same}
+use Rattle.std.proofs.Common.{◌≡◌, refl, sym, ◌∙◌, ap₂, Bool, true, false, ◌&&◌, List, [], ◌∷◌, ℕ, eqb, eqb-true, eq-eqb, ne_eqb, length, take}
+use lib.Pointwise.{pointwise}
+use Rattle.std.proofs.lemmas.Bool.{eqb-false}
+use Rattle.wire.specs.Fields.{begins_with}
 use Rattle.wire.proofs.begins.Goals as goal
 
-pub returns-then-s-mark : goal.returns-then-s-mark
-returns-then-s-mark c = let a = c.args in sym (begins_short a.mark.now a.s.now (omega (arith, c.if-s-mark.true)))
+turned : (a b : ℕ) → eqb a b ≡ eqb b a
+turned a b = go (eqb a b) refl
+  where
+    go : (t : Bool) → eqb a b ≡ t → t ≡ eqb b a
+    go true e = sym (eq-eqb b a (sym (eqb-true a b e)))
+    go false e = sym (ne_eqb b a (λ d. eqb-false a b e (sym d)))
 
-pub loop-i-init : goal.loop-i-init
-loop-i-init c = (search rules, search rules, below_none _)
-
-pub returns-then-s-i : goal.returns-then-s-i
-returns-then-s-i c =
-    let a = c.args in
-    sym (begins_differs a.mark.now a.s.now c.loop-i.i (search rules) (search rules) c.if-s-i.true)
-
-pub loop-i-preserved : goal.loop-i-preserved
-loop-i-preserved c = (search rules, search rules, below_more _ _ c.loop-i.invariant.2 c.if-s-i.false)
+each : (m s : List ℕ) → pointwise eqb m (take (length m) s) ≡ begins_with m s
+each [] s = refl
+each (m ∷ ms) [] = refl
+each (m ∷ ms) (b ∷ bs) = ap₂ (λ (x y : Bool). x && y) (turned m b) (each ms bs)
 
 pub returns : goal.returns
-returns c =
-    let a = c.args in
-    sym (begins_same a.mark.now a.s.now (search rules) (λ k h. c.loop-i.invariant.2 k (omega arith)))
+returns c = c.starts_with.ensures.value ∙ each c.args.mark.now c.args.s.now

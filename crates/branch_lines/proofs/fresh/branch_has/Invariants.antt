@@ -8,6 +8,3 @@ use Rattle.branch_lines.proofs.fresh.branch_has.Given as goal
 
 abbrev pub invariant-loop-k : goal.invariant-loop-k
 invariant-loop-k l = branch_has (lines_from l.area 0 l.len) l.name.number ≡ branch_has (lines_from l.area l.k (l.len - l.k)) l.name.number
-
-abbrev pub decreases-loop-k : goal.decreases-loop-k
-decreases-loop-k l = l.len - l.k

@@ -5,28 +5,28 @@ use Rattle.steps.specs.declared.step.Step.{Step}
 use Rattle.branch_lines.specs.Stored.{lines_from}
 use Rattle.steps.specs.Steps.{step_at, stepping, answer_of}
 use Rattle.branch_walk.specs.StraightLaws.{step_concludes, step_long, step_refused}
-use Rattle.branch_walk.proofs.straight.take_step.Goals.{After-take-answer}
+use Rattle.branch_walk.proofs.straight.take_step.Goals.{After-take}
 use Rattle.branch_walk.proofs.straight.take_step.Goals as goal
 
 -- what the step's rule says
-told : (c : After-take-answer)
+told : (c : After-take)
     → let a = c.args in
-    answer_of c.take-answer.result ≡ stepping a.p.now (lines_from a.area.now 0 a.len) (step_at a.steps.now a.k) a.k
+    answer_of c.take.result ≡ stepping a.given.now.p.now (lines_from a.area.now 0 a.len) (step_at a.given.now.steps.now a.k) a.k
 told c =
     let a = c.args in
-    c.take-answer.ensures ∙ ap (λ (t : Step). stepping a.p.now (lines_from a.area.now 0 a.len) t a.k) c.at-step.ensures
+    c.take.ensures ∙ ap (λ (t : Step). stepping a.given.now.p.now (lines_from a.area.now 0 a.len) t a.k) c.at-step.ensures
 
 pub returns-then-len-added_by-gt-MAX_LINES : goal.returns-then-len-added_by-gt-MAX_LINES
 returns-then-len-added_by-gt-MAX_LINES c =
-    step_long c.requires.walk_lent _ (c.requires.k_lt_s, sym (told (goal.at.returns-then-len-added_by-gt-MAX_LINES c).After-take-answer) ∙ ap answer_of c.in-Concluded.is)
+    step_long c.requires.walk_lent _ (c.requires.k_lt_s, sym (told (goal.at.returns-then-len-added_by-gt-MAX_LINES c).After-take) ∙ ap answer_of c.in-Ok.is)
     (rw c.added_by.ensures.0 at c.if-len-added_by-gt-MAX_LINES.true)
 
-pub returns-in-Refused : goal.returns-in-Refused
-returns-in-Refused c =
-    step_refused c.requires.walk_lent _ _ c.in-Refused.is c.requires.k_lt_s (told (goal.at.returns-in-Refused c).After-take-answer)
+pub returns-in-Err : goal.returns-in-Err
+returns-in-Err c =
+    step_refused c.requires.walk_lent _ _ c.in-Err.is c.requires.k_lt_s (told (goal.at.returns-in-Err c).After-take)
 
-pub returns-else-len-added_by-gt-MAX_LINES : goal.returns-else-len-added_by-gt-MAX_LINES
-returns-else-len-added_by-gt-MAX_LINES c =
+pub returns : goal.returns
+returns c =
     rw (c.extend.ensures.advance, c.extend.ensures.area)
-    (step_concludes c.requires.walk_lent _ (c.requires.k_lt_s, sym (told (goal.at.returns-else-len-added_by-gt-MAX_LINES c).After-take-answer) ∙ ap answer_of c.in-Concluded.is)
+    (step_concludes c.requires.walk_lent _ (c.requires.k_lt_s, sym (told (goal.at.returns c).After-take) ∙ ap answer_of c.in-Ok.is)
     (rw c.added_by.ensures.0 at c.if-len-added_by-gt-MAX_LINES.false))

@@ -2,7 +2,6 @@
 -- Assumes nothing.
 use Rattle.std.proofs.Common.{rules, ◌∙◌, ap, arith}
 use Rattle.pattern.proofs.File.Valid.{valid}
-use Rattle.names.specs.Set.{numbers_back}
 use Rattle.branch_end.specs.Ends.{finished}
 use Rattle.branch_walk.specs.WalkLaws.{first_lent, none_bounded, walk_finishes, finished_clears}
 use Rattle.branch_walk.proofs.walk.check_steps.Goals as goal
@@ -16,7 +15,7 @@ pub walk_first-requires : goal.walk_first-requires
 walk_first-requires c = record {
   walk_lent = rw c.store.ensures
       (first_lent c.args.area.now c.args.start c.requires.p_value c.requires.steps_len.0 c.requires.steps_len.1 c.requires.area_len);
-  set_of = rw (c.numbers-names.ensures, numbers_back c.args.used) c.requires.set_of;
+  set_of = c.requires.set_of;
   bounded = none_bounded;
 }
 

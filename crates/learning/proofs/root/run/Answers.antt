@@ -6,21 +6,14 @@ use Rattle.evaluation.specs.Learned.{learned_first}
 use Rattle.learning.proofs.root.run.Goals as goal
 
 pub learn_all-requires : goal.learn_all-requires
-learn_all-requires c = let long = c.fill_end.auto.rows in record {
-  lent = c.requires.lent;
-  learned = learned_first c.requires.lent c.args.area.now _ 512 (search rules) (omega (arith, c.requires.area_len)) (omega (arith, long, c.requires.n_in_bounds)) c.fill_end.ensures.rows;
-  n_in_bounds = rw long c.requires.n_in_bounds;
-}
+learn_all-requires c = let long = c.fill_end.auto.rows in
+    (rw c.new.ensures (learned_first c.args.q.now.lent c.args.area.now _ 256 (search rules) (omega (arith, c.requires.area_len)) (omega (arith, long, c.requires.n_in_bounds)) c.fill_end.ensures.rows), search rules)
 
-pub bounds-p-5 : goal.bounds-p-5
-bounds-p-5 c = omega (arith, (lent_valid c.requires.lent).header.length_is)
+pub bounds-q-5 : goal.bounds-q-5
+bounds-q-5 c = omega (arith, (lent_valid c.args.q.now.lent).header.length_is)
 
-pub overflow_sub-p : goal.overflow_sub-p
-overflow_sub-p c = omega (arith, (lent_valid c.requires.lent).header.some_entry)
+pub overflow_sub-q : goal.overflow_sub-q
+overflow_sub-q c = omega (arith, (lent_valid c.args.q.now.lent).header.some_entry)
 
-pub evaluate-requires : goal.evaluate-requires
-evaluate-requires c = let ok = lent_valid c.requires.lent in record {
-  lent = c.requires.lent;
-  learned = c.learn_all.ensures;
-  k_bound = (omega (arith, ok.header.some_entry), ok.root_node);
-}
+pub evaluate-requires-clause-k_bound : goal.evaluate-requires-clause-k_bound
+evaluate-requires-clause-k_bound c = let ok = lent_valid c.args.q.now.lent in (omega (arith, ok.header.some_entry), ok.root_node)

@@ -1,13 +1,14 @@
 -- `model_tables::successors::add_edge` meets its contract: the row is that of the record, said once where it is known, and within the table.
 -- Assumes nothing.
-use Rattle.std.proofs.Common.{ℕ, ◌≡◌, ap₂, ◌∙◌, arith}
+use Rattle.std.proofs.Common.{◌≡◌, ap, ◌∙◌, arith}
 use Rattle.relations.specs.Tables.{successors_row}
+use Rattle.model_records.specs.declared.Edge.{Edge}
 use Rattle.model_tables.specs.Successors.{edge_row}
 use Rattle.model_tables.proofs.successors.add_edge.Goals.{After-row_of-row}
 use Rattle.model_tables.proofs.successors.add_edge.Goals as goal
 
 row_is : (c : After-row_of-row) → let a = c.args in c.row_of-row.result ≡ edge_row a.d.now a.i
-row_is c = c.row_of-row.ensures ∙ ap₂ (λ (x u : ℕ). successors_row x u) c.edge_axis-axis.ensures c.edge_from.ensures
+row_is c = c.row_of-row.ensures ∙ ap (λ (e : Edge). successors_row e.axis e.from) c.at-edge.ensures
 
 pub load-set-requires : goal.load-set-requires
 load-set-requires c =
@@ -17,7 +18,7 @@ load-set-requires c =
 pub insert-grown-requires : goal.insert-grown-requires
 insert-grown-requires c =
     let v = c.requires.valid_model.edges c.args.i c.requires.i_bound in
-    omega (arith, c.edge_to.ensures, v.to_within, c.requires.valid_model.header.narrow)
+    omega (arith, ap (λ (e : Edge). e.to) c.at-edge.ensures, v.to_within, c.requires.valid_model.header.narrow)
 
 pub store-requires : goal.store-requires
 store-requires c =
@@ -26,4 +27,4 @@ store-requires c =
 
 pub returns : goal.returns
 returns c =
-    c.store.ensures ∙ rw (c.insert-grown.ensures, c.load-set.ensures, row_is (goal.at.returns c).After-row_of-row, c.edge_to.ensures)
+    c.store.ensures ∙ rw (c.insert-grown.ensures, c.load-set.ensures, row_is (goal.at.returns c).After-row_of-row, c.at-edge.ensures)

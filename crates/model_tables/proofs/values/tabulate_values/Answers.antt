@@ -1,6 +1,6 @@
 -- `model_tables::values::tabulate_values` meets its contract: the channels of the entries passed are made, by `made_more`.
 -- Assumes nothing.
-use Rattle.std.proofs.Common.{rules, arith, ℕ, subst, below_none}
+use Rattle.std.proofs.Common.{arith, ℕ, subst, below_none}
 use Rattle.pattern.proofs.File.Valid.{valid}
 use Rattle.model_tables.specs.Entries.{MadeBelow, made_more}
 use Rattle.model_tables.specs.Values.{ChannelMade, is_comparison, channel_within, none_made, alike_made}
@@ -11,7 +11,7 @@ bounds-p-5 c = omega (arith, (valid _ _ c.requires.p_value).header.length_is)
 
 pub loop-k-init : goal.loop-k-init
 loop-k-init c =
-    (search rules, search rules, below_none _, none_made c.args.d.now c.args.alike.now c.requires.by_index)
+    (below_none _, none_made c.args.d.now c.args.alike.now c.requires.by_index)
 
 pub at-requires : goal.at-requires
 at-requires c =
@@ -21,19 +21,13 @@ pub fill_compared-requires : goal.fill_compared-requires
 fill_compared-requires c = record {
   valid_model = c.requires.valid_model;
   x_le_max_channel = rw c.at.ensures (channel_within (valid _ _ c.requires.p_value) c.loop-k.k c.loop-k-test.true);
-  alike_rows_in_bounds = (search rules, c.loop-k.invariant.3);
+  whole = c.loop-k.invariant.1;
 }
-
-pub overflow_add-k : goal.overflow_add-k
-overflow_add-k c =
-    omega (arith, (valid _ _ c.requires.p_value).header.one_byte)
 
 pub loop-k-preserved : goal.loop-k-preserved
 loop-k-preserved c = (
-  search rules,
-  search rules,
   made_more (ChannelMade c.args.d.now) is_comparison c.args.p.now c.loop-k.k c.loop-k.alike _
-      (rw c.at.ensures at c.fill_compared.ensures.grown) c.loop-k.invariant.2,
+      (rw c.at.ensures at c.fill_compared.ensures.grown) c.loop-k.invariant.0,
   c.fill_compared.ensures.whole,
 )
 
@@ -42,4 +36,4 @@ returns c =
     let p = c.args.p.now in
     let d = c.args.d.now in
     alike_made d p c.loop-k.alike (valid _ _ c.requires.p_value)
-    (subst (λ (k : ℕ). MadeBelow (ChannelMade d) is_comparison p k c.loop-k.alike) (omega arith) c.loop-k.invariant.2)
+    (subst (λ (k : ℕ). MadeBelow (ChannelMade d) is_comparison p k c.loop-k.alike) (omega arith) c.loop-k.invariant.0)

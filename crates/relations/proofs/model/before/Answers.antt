@@ -1,20 +1,24 @@
--- `relations::model::before` meets its contract: of the numbers passed, those that lead into the set are collected.
+-- `relations::model::before` meets its contract: of the nodes below n, those that lead into the set are kept.
 -- Assumes nothing.
-use Rattle.std.proofs.Common.{◌≡◌, arith, rules}
-use Rattle.relations.specs.Members.{collected_none, collected_next, meets}
+use Rattle.std.proofs.Common.{◌≡◌, ◌<◌, not, rules}
+use Rattle.nodeset.specs.Set.{is_empty, meet}
+use Rattle.nodeset.specs.Members.{below_inside}
+use Rattle.nodeset.specs.Stored.{set_at}
+use Rattle.nodeset.specs.Filtered.{filtered_below}
+use Rattle.relations.specs.Tables.{successors_row}
+use Rattle.relations.specs.Members.{meets}
 use Rattle.relations.proofs.model.before.Goals as goal
 
-pub loop-u-init : goal.loop-u-init
-loop-u-init c = (search rules, rw c.empty-found.ensures (collected_none _))
-
-pub loop-u-preserved : goal.loop-u-preserved
-loop-u-preserved c = (
-  search rules,
-  rw (c.insert_if-found.ensures, c.is_empty-leads.ensures, c.meet.ensures, c.successors.ensures)
-      (collected_next _ c.loop-u.u c.loop-u.found _ (search rules) (meets _ _) c.loop-u.invariant.1),
-)
+pub filter-requires : goal.filter-requires
+filter-requires c u h =
+    let within : u < c.args.n = below_inside _ u c.requires.n_le_width.0 (rw c.below.ensures at h) in
+    search rules
 
 pub returns : goal.returns
 returns c =
-    let all : c.loop-u.u ≡ c.args.n = omega (arith, c.loop-u.invariant.0) in
-    rw all at c.loop-u.invariant.1
+    let a = c.args in
+    filtered_below _ _ a.n c.filter.result c.requires.n_le_width.0
+    (λ u l b asked.
+    let told : b ≡ not (is_empty (meet (set_at a.table.now (successors_row a.axis u)) a.s)) = search rules in
+    rw told (meets _ _))
+    (rw c.below.ensures at c.filter.ensures)

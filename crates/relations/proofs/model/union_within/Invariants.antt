@@ -6,8 +6,8 @@ use Rattle.nodeset.specs.Stored.{set_at}
 use Rattle.relations.specs.Members.{Gathered}
 use Rattle.relations.proofs.model.union_within.Given as goal
 
-abbrev pub invariant-loop-all : goal.invariant-loop-all
-invariant-loop-all l = Gathered (λ u. set_at l.rows (l.first + u)) l.initial.rest l.rest l.sum
+abbrev pub invariant-loop-u : goal.invariant-loop-u
+invariant-loop-u l = Gathered (λ u. set_at l.rows (l.first + u)) l.initial.rest l.rest l.sum
 
-abbrev pub decreases-loop-all : goal.decreases-loop-all
-decreases-loop-all l = size_of l.rest
+abbrev pub decreases-loop-u : goal.decreases-loop-u
+decreases-loop-u l = size_of l.rest

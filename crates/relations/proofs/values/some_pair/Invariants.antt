@@ -8,9 +8,9 @@ use Rattle.relations.specs.Members.{Searched}
 use Rattle.relations.specs.Values.{Partner}
 use Rattle.relations.proofs.values.some_pair.Given as goal
 
-abbrev pub invariant-loop-c : goal.invariant-loop-c
-invariant-loop-c l =
+abbrev pub invariant-loop-u : goal.invariant-loop-u
+invariant-loop-u l =
     (F : Finite) → AlikeOn F l.alike l.channel → Inside F l.initial.rest → Searched (λ v. Partner l.c (set_at l.alike (alike_row l.channel v)) l.t) l.initial.rest l.rest
 
-abbrev pub decreases-loop-c : goal.decreases-loop-c
-decreases-loop-c l = size_of l.rest
+abbrev pub decreases-loop-u : goal.decreases-loop-u
+decreases-loop-u l = size_of l.rest

@@ -1,10 +1,7 @@
 -- `slots::uses::latest_slot` meets its contract.
 -- Assumes nothing.
-use Rattle.std.proofs.Common.{◌-◌, ◌≤◌, ◌<◌}
+use Rattle.std.proofs.Common.{◌<◌}
 use Rattle.slots.proofs.uses.latest_slot.Given as goal
 
 abbrev pub invariant-loop-slot : goal.invariant-loop-slot
-invariant-loop-slot l = (0 < l.latest) × (l.latest < l.slot) × (l.slot ≤ l.slots)
-
-abbrev pub decreases-loop-slot : goal.decreases-loop-slot
-decreases-loop-slot l = l.slots - l.slot
+invariant-loop-slot l = (0 < l.latest) × (l.latest < l.slot)

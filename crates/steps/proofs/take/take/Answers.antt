@@ -40,12 +40,16 @@ step_outcome-requires c = record {
 pub returns-in_default : goal.returns-in_default
 unfolding stepping
 returns-in_default c =
-    rw (known (goal.at.returns-in_default c).Else-not-is_known, fields (goal.at.returns-in_default c).After-field_fault c.if-field_fault.false, sym c.step_outcome.ensures ∙ c.in_default.is) refl
+    rw (
+      known (goal.at.returns-in_default c).Else-not-is_known,
+      fields (goal.at.returns-in_default c).After-field_fault c.if-field_fault.false,
+      sym c.step_outcome.ensures ∙ c.in_default.is,
+    ) refl
 
 stale : (c : After-is_stale) {t : Bool}
     → c.is_stale.result ≡ t
     → let a = c.args in
-    is_stale a.p.now (lines_from a.area.now 0 a.len) c.in-Fits.conclusion ≡ t
+    is_stale a.p.now (lines_from a.area.now 0 a.len) c.in-Some.conclusion ≡ t
 stale c h =
     sym (c.is_stale.ensures _ c.requires.set_of) ∙ h
 
@@ -55,7 +59,7 @@ returns-then-is_stale c =
     rw (
       known (goal.at.returns-then-is_stale c).Else-not-is_known,
       fields (goal.at.returns-then-is_stale c).After-field_fault c.if-field_fault.false,
-      sym c.step_outcome.ensures ∙ c.in-Fits.is,
+      sym c.step_outcome.ensures ∙ c.in-Some.is,
       stale (goal.at.returns-then-is_stale c).After-is_stale c.if-is_stale.true,
     ) refl
 
@@ -65,6 +69,6 @@ returns c =
     rw (
       known (goal.at.returns c).Else-not-is_known,
       fields (goal.at.returns c).After-field_fault c.if-field_fault.false,
-      sym c.step_outcome.ensures ∙ c.in-Fits.is,
+      sym c.step_outcome.ensures ∙ c.in-Some.is,
       stale (goal.at.returns c).After-is_stale c.if-is_stale.false,
     ) refl

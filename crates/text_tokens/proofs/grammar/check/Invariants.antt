@@ -6,7 +6,8 @@ use Rattle.text_tokens.specs.Taking.{place_at}
 use Rattle.text_tokens.proofs.grammar.check.Given as goal
 
 abbrev pub invariant-loop-i : goal.invariant-loop-i
-invariant-loop-i l = (l.i ≤ length l.text) × (length l.stack ≡ 4097) × (l.at ≤ 4097) × (4096 ≤ l.at + 4 * l.i) × (place_at l.text l.stack l.at l.i ≡ place_of l.text)
+invariant-loop-i l =
+    (l.i ≤ length l.text) × (length l.stack ≡ 4097) × (l.at ≤ 4097) × (4096 ≤ l.at + 4 * l.i) × (place_at l.text l.stack l.at l.i ≡ place_of l.text)
 
 abbrev pub decreases-loop-i : goal.decreases-loop-i
 decreases-loop-i l = 5 * (length l.text - l.i) + (4097 - l.at)

@@ -1,6 +1,0 @@
--- `is_rules::opposes` meets its contract.
--- Assumes nothing.
-use Rattle.is_rules.proofs.opposes.Goals as goal
-
-pub returns : goal.returns
-returns c = rw (c.same_name-2.ensures, c.same_name.ensures, c.opposed.ensures)

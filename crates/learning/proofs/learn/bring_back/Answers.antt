@@ -1,7 +1,0 @@
--- `learning::learn::bring_back` meets its contract.
--- Assumes nothing.
-use Rattle.evaluation.specs.Evaluated.{entry_long}
-use Rattle.learning.proofs.learn.bring_back.Goals as goal
-
-pub paths_held-requires : goal.paths_held-requires
-paths_held-requires c = entry_long c.requires.lent c.args.k c.requires.slots_fit.1
