@@ -86,6 +86,8 @@ pub fn tableau_answer(f: TableauFinding) -> u64
     }
 }
 
+// The two below differ in the type of the refusal: a trait for it would be longer than the second.
+
 // The answer of putting a model file in order.
 pub fn order_answer(f: OrderFinding) -> u64
     ensures { result ≡ written_answer (order-specs.finding_of f) }

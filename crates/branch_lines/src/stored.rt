@@ -1,4 +1,5 @@
-// Lines in lent bytes, eight a line.
+// Lines in lent bytes, eight a line. Each function asks for the bytes of its line alone, so no struct has the fact
+// for all.
 ghost use Rattle.std.specs.Prelude.{◌≡◌, ◌+◌, ◌*◌, ◌≤◌, length};
 ghost use Rattle.lines.specs.declared.line.Line.{Line};
 ghost use Rattle.lines.specs.Lines.{line_has};
@@ -7,7 +8,8 @@ ghost use Rattle.branch_lines.specs.Stored.{sign_at, comparison_at, bytes_of, fo
 use lines::line::{CompareLine, EdgeLine, Form, HasLine, IsLine, Line, Side, channel_at};
 use pattern::types::{Axis, Comparison, Name, Sign};
 
-// The sign and the comparison of a stored bit: two types, each of two values.
+// The sign and the comparison of a stored bit, two types of two values each. No conversion: every number stands
+// for one, and the types are of `pattern`.
 fn sign_at(number: u8) -> Sign
     ensures { result ≡ sign_at number }
 {

@@ -96,7 +96,7 @@ fn opposes(l: CompareLine, q: CompareLine) -> bool
     l.sign != q.sign && l.comparison == q.comparison && alike_sides(l, q)
 }
 
-// 21. "Clash: P and Q alike but for sign." A function for each form of P, as `==` of its parts is another.
+// 21. "Clash: P and Q alike but for sign." One for each form of P, since each compares other parts.
 pub fn rule21(l: CompareLine, q: Line) -> bool
     ensures { clash_if result ≡ rule21 (Line.Compare l) q }
 {

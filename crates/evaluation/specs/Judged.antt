@@ -22,4 +22,4 @@ Sweeps q i before after = EntrySwept q.p.now q.table.now q.alike.now q.n i befor
 
 -- what the marks say is so
 abbrev pub Knows : Judged → Known → Type 0
-Knows q known = Learned q.p.now q.table.now q.alike.now q.n known.area.now known.rows.now known.marks
+Knows q known = Learned q.p.now q.table.now q.alike.now q.n known.area.now known.rows.now known.marks.now

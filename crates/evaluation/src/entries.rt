@@ -87,7 +87,7 @@ impl Judged<'_> {
         ensures { FindsNodes self.now k result }
     {
         let e = Entry::at(self.p, k);
-        if known.marks.is_held(e.y) & known.marks.is_held(e.z) {
+        if known.marks.is_held(e.y) && known.marks.is_held(e.z) {
             let first = known.marks.row_of_path(self.n, e.y);
             let second = known.marks.row_of_path(self.n, e.z);
             return compare_rows(self.alike, known.rows, self.n, e.x, c, first, second);

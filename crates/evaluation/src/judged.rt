@@ -16,9 +16,9 @@ pub struct Judged<'a> {
 // What was learned of the entries: sets in the area, ends of paths in the rows, and the marks that say which
 // and where. Tried and did not close: that the marks are right (`Learned`) as a ghost field, since it may have
 // more than one proof.
-#[derive(Drop)]
+#[derive(Clone, Copy)]
 pub struct Known<'a> {
-    pub area: &'a mut [u8],
-    pub rows: &'a mut [u8],
-    pub marks: Marks,
+    pub area: &'a [u8],
+    pub rows: &'a [u8],
+    pub marks: &'a Marks,
 }

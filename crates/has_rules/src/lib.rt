@@ -79,14 +79,14 @@ fn rule7(h: HasLine, e: Entry) -> Option<Conclusion>
     }
 }
 
-// Whether two has/lacks lines are alike but for sign.
+// Whether two has/lacks lines are alike but for sign: as of is/is not lines, over other fields.
 fn opposes(h: HasLine, q: HasLine) -> bool
     ensures { result ≡ opposed_has h q }
 {
     h.sign != q.sign && h.name == q.name && h.node == q.node
 }
 
-// 21. "Clash: P and Q alike but for sign." A function for each form of P, as `==` of its parts is another.
+// 21. "Clash: P and Q alike but for sign." One for each form of P, since each compares other parts.
 fn rule21(h: HasLine, q: Line) -> bool
     ensures { clash_if result ≡ rule21 (Line.Has h) q }
 {

@@ -55,7 +55,7 @@ fn opposes(l: IsLine, q: IsLine) -> bool
     l.sign != q.sign && l.first == q.first && l.second == q.second
 }
 
-// 21. "Clash: P and Q alike but for sign." A function for each form of P, as `==` of its parts is another.
+// 21. "Clash: P and Q alike but for sign." One for each form of P, since each compares other parts.
 fn rule21(l: IsLine, q: Line) -> bool
     ensures { clash_if result ≡ rule21 (Line.Is l) q }
 {

@@ -7,8 +7,8 @@ ghost use Rattle.slots.specs.Area.{area_bytes};
 ghost use Rattle.evaluation.specs.Standing.{Lent, RootNodes};
 ghost use Rattle.evaluation.specs.Judged.{FindsNodes};
 
-use crate::learn::Plan;
-use evaluation::{Judged, Known};
+use crate::learn::{Memory, Plan};
+use evaluation::Judged;
 use nodeset::NodeSet;
 use path_rows::fill_end;
 use slots::marks::{Marks, slot_count};
@@ -28,13 +28,13 @@ fn run(q: &Judged, area: &mut [u8], rows: &mut [u8], last: &[u8; USES_BYTES]) ->
 {
     let slots = slot_count(rows.len(), q.n);
     fill_end(rows, q.n);
-    let mut known = Known {
+    let mut memory = Memory {
         area,
         rows,
         marks: Marks::new(),
     };
-    Plan { q, last, slots }.learn_all(&mut known);
-    q.evaluate(&known, q.p[5] - 1)
+    Plan { q, last, slots }.learn_all(&mut memory);
+    q.evaluate(&memory.known(), q.p[5] - 1)
 }
 
 // The same with rows of so many bytes.

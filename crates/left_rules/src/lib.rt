@@ -28,6 +28,8 @@ fn going_from(l: CompareLine, k: Name, path: u8) -> Line
     l.with_left(side_of(k, path))
 }
 
+// Three parts of the rules, each of another type.
+
 // The comparison with α for its left path.
 fn going_on(l: CompareLine, path: u8) -> Line
     ensures { result ≡ with_left l (side l.left.name path) }

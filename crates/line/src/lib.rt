@@ -3,7 +3,7 @@
 // without its line feed.
 #![tactic(auto)]
 
-ghost use Rattle.std.specs.Prelude.{◌≡◌, ◌++◌, ◌+◌, ◌≤◌, length};
+ghost use Rattle.std.specs.Prelude.{◌≡◌, ◌+◌, ◌≤◌, length};
 ghost use Rattle.line.specs.Line.{number, line_of};
 ghost use Rattle.line.specs.Filling.{line_bytes, Put, LineFilled};
 ghost use Rattle.line.specs.LineFeed.{without_line_feed};

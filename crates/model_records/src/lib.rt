@@ -1,5 +1,6 @@
 // The counts of a model file, where its records stand, and the fields of the records, read and, of its
-// edges, written. The readers and writers are for files that are long enough.
+// edges, written. The readers and writers are for files that are long enough: each asks for the bytes that it
+// reads, since the checks call them before the file is known to be valid.
 #![tactic(auto)]
 
 ghost use Rattle.std.specs.Prelude.{◌≡◌, ◌+◌, ◌≤◌, length};

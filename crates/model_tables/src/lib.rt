@@ -32,6 +32,7 @@ pub fn root_nodes(p: &[u8], d: &[u8], work: &mut [u8]) -> NodeSet
     ensures nodes { (u : ℕ) → has result u ≡ root_holds p.now (model_from d.now) u }
     ensures work { work.new ≡ replicate (length work.old) 0 }
 {
+    // Fixed memory, on the stack: the unit has no heap.
     let mut table = [0u8; TABLE_BYTES];
     let mut alike = [0u8; ALIKE_BYTES];
     tabulate(p, d, &mut table);

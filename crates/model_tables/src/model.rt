@@ -1,11 +1,11 @@
 // The table of a model for a pattern: of its properties and names what the pattern uses.
-ghost use Rattle.std.specs.Prelude.{◌≡◌, true, false, ℕ, ◌≤◌, length};
+ghost use Rattle.std.specs.Prelude.{◌≡◌, true, false, ℕ, ◌≤◌};
 ghost use Rattle.nodeset.specs.Set.{has};
-ghost use Rattle.nodeset.specs.Stored.{table_bytes, set_at};
+ghost use Rattle.nodeset.specs.Stored.{set_at};
 ghost use Rattle.pattern.specs.Checks.Finding.{found};
 ghost use Rattle.pattern.specs.File.Types.{max_property};
 ghost use Rattle.pattern.specs.File.Reading.{count_of, reading_of};
-ghost use Rattle.relations.specs.Tables.{model_rows, IsSet, Tabled};
+ghost use Rattle.relations.specs.Tables.{IsSet, Tabled};
 ghost use Rattle.model_records.specs.Contents.{has_property, NamesListed, model_from};
 ghost use Rattle.model_records.specs.Valid.{ValidModel};
 ghost use Rattle.model_tables.specs.Entries.{Grown, MadeBelow};

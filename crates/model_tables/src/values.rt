@@ -1,5 +1,5 @@
 // The table of the values of a model for a pattern: the channels on which it compares.
-ghost use Rattle.std.specs.Prelude.{◌≡◌, true, false, ◌&&◌, not, ℕ, ◌≤◌, ◌<◌, length, eqb};
+ghost use Rattle.std.specs.Prelude.{◌≡◌, true, false, ◌&&◌, not, ℕ, ◌≤◌, ◌<◌, length};
 ghost use Rattle.nodeset.specs.Set.{has, is_empty};
 ghost use Rattle.nodeset.specs.Stored.{table_bytes, set_at};
 ghost use Rattle.nodeset.specs.Members.{HasExactly};
@@ -12,7 +12,7 @@ ghost use Rattle.model_records.specs.Layout.{node_count, value_on};
 ghost use Rattle.model_records.specs.Contents.{model_from};
 ghost use Rattle.model_records.specs.Valid.{ValidModel};
 ghost use Rattle.model_tables.specs.Entries.{Grown};
-ghost use Rattle.model_tables.specs.Buckets.{bucket_count, bucket_of, InBuckets, Near};
+ghost use Rattle.model_tables.specs.Buckets.{bucket_of, InBuckets};
 ghost use Rattle.model_tables.specs.Values.{AlikeTo, AlikeBelow, ChannelMade, MadeWhole, is_comparison};
 
 use model_records::{node_count, value_on};

@@ -136,7 +136,7 @@ impl NodeSet {
     }
 
     // The nodes of the set that pass a test. Here and above, the members of a set are met by a `while let`: an
-    // iterator would want a type of its own and the law that it ends, to save a line in each of four loops.
+    // iterator would want a type of its own and the law that it ends, to save a line in each of three loops.
     pub fn filter<P: Fn(u8) -> bool>(self, test: P) -> NodeSet
         requires { (u : ℕ) → has self u ≡ true → P.pre test u }
         ensures { Filtered (P.post test) self result }

@@ -32,6 +32,8 @@ pub fn lacks_at(h: HasLine, e: Entry, wanted: Kind) -> bool
     e.kind == wanted && h.sign == Sign::Negative
 }
 
+// Two lines or a fork: what a rule concludes is its sentence, so each is a function.
+
 // Both parts of the node, x and then y, had or lacked at the name, where the test passed.
 fn both_parts(fits: bool, sign: Sign, h: HasLine, e: Entry) -> Option<Conclusion>
     ensures { result ≡ when fits (Conclusion.Two (has sign h.name e.x) (has sign h.name e.y)) }

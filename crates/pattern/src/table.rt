@@ -26,7 +26,8 @@ pub enum Kind {
 }
 
 // Document 01's sorts of entries: nodes, which hold at a node or not, and paths, which lead from a node
-// to others.
+// to others. `Neither` and, of a field, `Unused` are words of the document's table and not none: a check asks
+// each by name.
 #[derive(Clone, Copy, PartialEq, Eq)]
 pub enum Sort {
     Node,

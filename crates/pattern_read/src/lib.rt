@@ -67,6 +67,7 @@ fn check_entries(p: &[u8], n: u8) -> Result<(), PatternRefusal>
     requires { length p.now ≡ 6 + 4 * n }
     ensures { check_of result ≡ each_below n (entry_check p.now) }
 {
+    // Fixed memory, on the stack: the unit has no heap.
     let mut seen = [0u8; SLOTS];
     for k in 0..n {
         check_entry(p, k, &seen)?;

@@ -53,6 +53,7 @@ fn type_text<R: Files + Print>(rt: &R, name: &[u8]) {
 fn listed<R: Files + Print, F: Fn(&R, &[u8])>(rt: &R, path: &[u8], sample: F)
     requires { F.IsAlwaysCallable sample }
 {
+    // Fixed memory, as the unit has it: no heap.
     let mut list = [0u8; LIST_BYTES];
     let n = runner::load(rt, path, &mut list);
     for line in list[..n].split_inclusive(|&byte| byte == b'\n') {

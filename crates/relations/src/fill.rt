@@ -1,5 +1,5 @@
 // Rows of sets that are made one after the other.
-ghost use Rattle.std.specs.Prelude.{◌≡◌, ℕ, List, ◌<◌};
+ghost use Rattle.std.specs.Prelude.{ℕ, List, ◌<◌};
 ghost use denote.Ref.{Bor};
 ghost use Rattle.relations.specs.Covered.{RowsFit};
 ghost use Rattle.relations.specs.Filled.{FilledBy, RuleGives};

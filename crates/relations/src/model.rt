@@ -1,4 +1,5 @@
-// The table of a model, row by row, and its axes between whole sets.
+// The table of a model, row by row, and its axes between whole sets. Each function asks for a table that is long
+// enough, and takes a longer one: an array whose length is its type would ask more of callers.
 ghost use Rattle.std.specs.Prelude.{◌≡◌, ◌+◌, ◌≤◌, ◌<◌, length};
 ghost use Rattle.nodeset.specs.Set.{width};
 ghost use Rattle.nodeset.specs.Stored.{table_bytes, set_at};
@@ -56,6 +57,7 @@ pub fn union_within(rows: &[u8], first: usize, s: NodeSet, all: NodeSet) -> Node
 {
     let mut rest = s;
     let mut sum = NodeSet::empty();
+    // As all loops over the members of a set: no iterator, which would be longer than what it saves.
     while let Some(u) = rest.lowest() {
         sum = sum.union(NodeSet::load(rows, first + (u as usize)));
         if all.minus(sum).is_empty() {

@@ -51,6 +51,7 @@ pub fn some_pair(alike: &[u8], channel: u8, c: Comparison, s: NodeSet, t: NodeSe
         return true;
     }
     let mut rest = s;
+    // No iterator: a turn takes the nodes of a whole value out of the set.
     while let Some(u) = rest.lowest() {
         let class = alike_to(alike, channel, u);
         if has_partner(c, class, t) {

@@ -11,7 +11,7 @@ ghost use Rattle.pattern.specs.File.Reading.{repeats_at};
 ghost use Rattle.repeats.specs.Seen.{slot_of, slot_at, Seen};
 
 // How many slots there are: many more than entries, so that entries that differ seldom share one. A slot
-// is a byte and not a bool, so that callers owe nothing for the unmarked ones: all but 0 count as marks.
+// is a byte and not a bool: any byte but 0 is a mark, and a bool would ask more of callers.
 pub const SLOTS: usize = 2048;
 
 // The four bytes of entry k as one number.

@@ -44,6 +44,7 @@ fn tableau_report(finding: TableauFinding) -> Report
 fn report_for(pattern: &[u8], proposal: &[u8]) -> Report
     ensures { result ≡ report_of pattern.now proposal.now }
 {
+    // Fixed memory, as the unit has it: no heap.
     let mut area = [0u8; AREA];
     if wire::begins(proposal, &tableau::MARK) {
         return tableau_report(judge_tableau(pattern, proposal, &mut area));

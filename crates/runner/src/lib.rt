@@ -50,6 +50,7 @@ pub fn load<R: Files>(rt: &R, path: &[u8], buf: &mut [u8]) -> usize
 
 // Reads the two files, judges the proposal and writes the line.
 pub fn run<R: Files + Print>(rt: &R, pattern: &[u8], proposal: &[u8]) {
+    // Fixed memory, as the unit has it: no heap.
     let mut p = [0u8; PATTERN_BYTES];
     let mut d = [0u8; PROPOSAL_BYTES];
     let n = load(rt, pattern, &mut p);

@@ -34,6 +34,7 @@ fn save<R: Files>(rt: &R, bytes: &[u8]) -> bool {
 // Types the text that was read: writes the file, unless the text is refused, and the line. Where the
 // file can't be written, the line says so.
 fn type_text<R: Files + Print>(rt: &R, read: &[u8]) {
+    // Fixed memory, as the unit has it: no heap.
     let mut file = [0u8; FILE_BYTES];
     let mut line = [0u8; LINE_BYTES];
     let typed = type_read(read, &mut file, &mut line);

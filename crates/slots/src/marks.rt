@@ -102,13 +102,9 @@ impl Marks {
         ensures { result ≡ each_field (field_held self.now) (entry_at p.now k) }
     {
         let e = Entry::at(p, k);
-        let kind = e.kind;
-        let form = kind.form();
-        let x = form.x;
-        let y = form.y;
-        let z = form.z;
-        let first = self.field_held(x, e.x) & self.field_held(y, e.y);
-        first & self.field_held(z, e.z)
+        let form = e.kind.form();
+        let first = self.field_held(form.x, e.x) & self.field_held(form.y, e.y);
+        first & self.field_held(form.z, e.z)
     }
 
     // The first row of the slot that a path was given last.

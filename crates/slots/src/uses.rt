@@ -23,30 +23,33 @@ fn is_none(noted: u8) -> bool {
     noted == 0
 }
 
-// Entry j has a field that holds this: it is noted as a use, if what is noted goes. Entries are met from the
-// last down, so that the last use stays where only no use goes, and the next where each does.
-fn refer<F: Fn(u8) -> bool>(uses: &mut [u8; USES_BYTES], goes: &F, field: Field, value: u8, j: u8)
-    requires { F.IsAlwaysCallable goes.now }
+// Entry j has a field that holds this: it is noted as a use, if the use that is noted is replaced. Entries are
+// met from the last down, so that the last use stays where only none is replaced, and the next where each is.
+// Here and in `marks`, `&` in place of `&&` takes one branch for two cheap tests.
+fn refer<F: Fn(u8) -> bool>(
+    uses: &mut [u8; USES_BYTES],
+    replaced: &F,
+    field: Field,
+    value: u8,
+    j: u8,
+)
+    requires { F.IsAlwaysCallable replaced.now }
 {
-    if is_reference(field) & goes(uses[value as usize]) {
+    if is_reference(field) & replaced(uses[value as usize]) {
         uses[value as usize] = j;
     }
 }
 
 // Entry j, which the root reaches, uses its parts.
-fn refer_to_parts<F: Fn(u8) -> bool>(p: &[u8], uses: &mut [u8; USES_BYTES], goes: &F, j: u8)
+fn refer_to_parts<F: Fn(u8) -> bool>(p: &[u8], uses: &mut [u8; USES_BYTES], replaced: &F, j: u8)
     requires entry { HasEntry p.now j }
-    requires callable { F.IsAlwaysCallable goes.now }
+    requires callable { F.IsAlwaysCallable replaced.now }
 {
     let e = Entry::at(p, j);
-    let kind = e.kind;
-    let form = kind.form();
-    let x = form.x;
-    let y = form.y;
-    let z = form.z;
-    refer(uses, goes, x, e.x, j);
-    refer(uses, goes, y, e.y, j);
-    refer(uses, goes, z, e.z, j);
+    let form = e.kind.form();
+    refer(uses, replaced, form.x, e.x, j);
+    refer(uses, replaced, form.y, e.y, j);
+    refer(uses, replaced, form.z, e.z, j);
 }
 
 // The last uses of all entries. The root counts as used to the end, and the end of path, of which every

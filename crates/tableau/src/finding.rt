@@ -84,17 +84,6 @@ impl WalkRefusal {
     }
 }
 
-impl From<StepRefusal> for WalkRefusal {
-    ghost use Rattle.std.specs.Prelude.{◌≡◌};
-    ghost use Rattle.tableau.specs.declared.finding.WalkRefusal.TheVariants.{Step};
-
-    ghost from_gives = { λ refusal r. r ≡ Step refusal };
-
-    fn from(refusal: StepRefusal) -> WalkRefusal {
-        WalkRefusal::Step(refusal)
-    }
-}
-
 // Document 01's refusals of judging a tableau: 1 to 8 of the pattern, 9 of the working area, 15 to 18
 // of the header, 19 to 26 of the steps.
 #[derive(Clone, Copy, Debug, PartialEq, Eq)]

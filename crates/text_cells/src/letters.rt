@@ -47,6 +47,8 @@ fn marked(made: Made) -> Option<Made>
     if made.kind == 0 { None } else { Some(made) }
 }
 
+// A table by letters, as the grammar is one: a row says what a letter makes.
+
 // The cell that a letter makes of its number and of the three items on top of the stack, if it makes one.
 pub fn made_by(letter: u8, value: u16, a: u16, b: u16, c: u16) -> Option<Made>
     ensures made { result ≡ made_by letter value a b c }

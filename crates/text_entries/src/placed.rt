@@ -1,5 +1,5 @@
 // Placing an entry, four bytes, among those that stand.
-ghost use Rattle.std.specs.Prelude.{◌≡◌, ◌≤◌, ◌<◌, length};
+ghost use Rattle.std.specs.Prelude.{◌≡◌, ◌<◌, length};
 ghost use Rattle.typed_file.specs.Entries.{same_entry, find_from};
 ghost use Rattle.text_entries.specs.Placing.{entry_in, entries_from, number_found, stored_if, found_as, within_room};
 

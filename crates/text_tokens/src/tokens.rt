@@ -49,7 +49,8 @@ pub fn read_tokens(text: &[u8], tokens: &mut [u16; 1024]) -> Result<u16, OutOfRa
     let mut at = 0;
     let mut n: usize = 0;
     let mut beyond = None;
-    // No `for` over tokens: each is read from the place behind the one before it.
+    // No `for` over tokens: each is read from the place behind the one before it, which an iterator would hold
+    // beside the text and the loop wants too.
     while let Some(token) = (TextReader { text, at }).next() {
         tokens[n] = token.word();
         beyond = beyond_after(beyond, token, at);

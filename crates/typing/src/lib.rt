@@ -55,6 +55,7 @@ fn write_text(text: &[u8], out: &mut [u8]) -> TypeFinding
     ensures finding { (t : NodeText) → node t [] ≡ text.now → finding_of result ≡ written (text_within t (length out.old)) }
     ensures destination { (t : NodeText) → node t [] ≡ text.now → out.new ≡ destination_after (text_within t (length out.old)) out.old }
 {
+    // Fixed memory, on the stack, here and below: the unit has no heap.
     let mut tokens = [0u16; TOKENS];
     let n = read_tokens(text, &mut tokens)?;
     write_tokens(&tokens, n, out)

@@ -291,15 +291,15 @@ mod tests {
         assert_says(
             learning,
             &[
-                "if !known.marks.paths_held(q.p, k) {\n        return false;",
-                "known.marks.tag(slot, END);\n    if fill(q, known, k, slot) {\n        known.marks.give(k, slot);\n        known.marks.tag(slot, k);",
-                "if !known.marks.paths_held(q.p, j) {\n            return;",
-                "free_slot(q.p, &known.marks, self.last, uses, self.slots, k, j)",
-                "if sort_at(self.q.p, j).is_node() | (known.marks.is_held(j) | (uses[j as usize] == 0)) {\n            return;",
-                "uses_again(self.q.p, &known.marks, self.last, k, &mut uses);\n        for j in 0..k {",
-                "if known.marks.paths_held(self.q.p, k) {\n            return;\n        }\n        self.learn_needed(",
-                "self.bring_back(known, k);\n        if sort_at(self.q.p, k).is_node() {",
-                "self.learn_in_slot(known, self.last, k, k);",
+                "if !memory.marks.paths_held(q.p, k) {\n        return false;",
+                "memory.marks.tag(slot, END);\n    if fill(q, memory, k, slot) {\n        memory.marks.give(k, slot);\n        memory.marks.tag(slot, k);",
+                "if !memory.marks.paths_held(q.p, j) {\n            return;",
+                "free_slot(q.p, &memory.marks, self.last, uses, self.slots, k, j)",
+                "if sort_at(self.q.p, j).is_node() || memory.marks.is_held(j) || uses[j as usize] == 0 {\n            return;",
+                "uses_again(self.q.p, &memory.marks, self.last, k, &mut uses);\n        for j in 0..k {",
+                "if memory.marks.paths_held(self.q.p, k) {\n            return;\n        }\n        self.learn_needed(",
+                "self.bring_back(memory, k);\n        if sort_at(self.q.p, k).is_node() {",
+                "self.learn_in_slot(memory, self.last, k, k);",
                 "for k in 0..p[5] {\n            if self.last[k as usize] != 0 {\n                self.learn(",
             ],
         );
@@ -307,7 +307,7 @@ mod tests {
         assert_says(
             uses,
             &[
-                "if is_reference(field) & goes(uses[value as usize]) {",
+                "if is_reference(field) & replaced(uses[value as usize]) {",
                 "fn is_none(noted: u8) -> bool {\n    noted == 0",
                 "refer_to_parts(p, last, &is_none, j);",
                 "for j in (0..count).rev() {",

@@ -14,7 +14,7 @@ paths_held-requires c = entry_long c.args.q.now.lent c.args.k c.requires.k_bound
 pub returns-then-not-paths_held : goal.returns-then-not-paths_held
 returns-then-not-paths_held c = let a = c.args in
     record {
-      slot_filled = slot_left a.q.now.p.now a.q.now.table.now a.q.now.alike.now a.q.now.n a.k a.slot a.known.now.rows.now;
+      slot_filled = slot_left a.q.now.p.now a.q.now.table.now a.q.now.alike.now a.q.now.n a.k a.slot a.memory.now.rows.now;
       rows_long = refl;
       same_area = refl;
       same_marks = refl;
@@ -35,10 +35,10 @@ on-by : (c : After-path_kind-path)
     → let a = c.args in
     let e = c.at-e.result in
     let other = other_path c.path_kind-path.result e.x e.y in
-    (PathOf a.q.now.p.now other × (is_held a.known.now.marks other ≡ true)) × (PathOf a.q.now.p.now e.y × (is_held a.known.now.marks e.y ≡ true))
+    (PathOf a.q.now.p.now other × (is_held a.memory.now.marks other ≡ true)) × (PathOf a.q.now.p.now e.y × (is_held a.memory.now.marks e.y ≡ true))
 on-by c =
     let paths = goes_on_by (read c) in
-    let held = goes_on_held (read c) c.args.known.now.marks (sym c.paths_held.ensures ∙ c.if-not-paths_held.false) in
+    let held = goes_on_held (read c) c.args.memory.now.marks (sym c.paths_held.ensures ∙ c.if-not-paths_held.false) in
     ((paths.0, held.0), (paths.1, held.1))
 
 pub test_nodes-held-requires-clause-test_node : goal.test_nodes-held-requires-clause-test_node
@@ -71,7 +71,7 @@ returns c = let a = c.args in
     let first = (c.requires.learned.held _ on.0.0 on.0.1).ends in
     let second = (c.requires.learned.held _ on.1.0 on.1.1).ends in
     record {
-      slot_filled = slot_filled (read (goal.at.returns c).After-path_kind-path) a.known.now.rows.now _ c.test_nodes-held.result c.row_of_path-first.result c.row_of_path-second.result a.slot
+      slot_filled = slot_filled (read (goal.at.returns c).After-path_kind-path) a.memory.now.rows.now _ c.test_nodes-held.result c.row_of_path-first.result c.row_of_path-second.result a.slot
           (rw (c.row_of_path-first.ensures, c.other_path.ensures) first)
           (rw c.row_of_path-second.ensures second)
           c.test_nodes-held.ensures

@@ -7,7 +7,7 @@ use Rattle.evaluation.specs.Learned.{learned_node}
 use Rattle.learning.proofs.learn.learn_node.Goals as goal
 
 pub store-requires : goal.store-requires
-store-requires c = rw c.requires.k_bound.2 (set_room c.args.q.now.p.now c.args.known.now.area.now c.requires.learned.area_long c.args.k c.requires.k_bound.0 c.requires.k_bound.1)
+store-requires c = rw c.requires.k_bound.2 (set_room c.args.q.now.p.now c.args.memory.now.area.now c.requires.learned.area_long c.args.k c.requires.k_bound.0 c.requires.k_bound.1)
 
 pub know-requires : goal.know-requires
 know-requires c = omega (arith, c.requires.k_bound.0, c.requires.k_bound.2, nodes_few c.args.q.now.p.now c.args.k, (lent_valid c.args.q.now.lent).header.one_byte)

@@ -1,7 +1,6 @@
 -- Node evaluation and path ends meet their contracts, by the laws of `Evaluated` and `SweepEntry` for each way out; the entry number falls.
 -- Assumes nothing.
 use Rattle.std.proofs.Common.{rules, ◌≡◌, sym, ap, ◌∙◌, Some, subst, ℕ, ◌≤◌, arith, ◌+◌, ◌*◌, ◌<◌}
-use Rattle.pattern.specs.Checks.Tests.{and_is_true}
 use Rattle.pattern.specs.File.Types.{max_channel}
 use Rattle.pattern.specs.File.Entries.{max_entries}
 use Rattle.pattern.specs.File.Reading.{count_of, sort_at}
@@ -15,7 +14,7 @@ use Rattle.pattern.specs.File.Valid.{EarlierNode}
 use Rattle.pattern.specs.declared.table.Sort.{Sort}
 use Rattle.evaluation.specs.Judged.{Knows}
 use Rattle.slots.specs.Area.{place_of, set_room}
-use Rattle.evaluation.proofs.judged.Judged.+evaluation.Goals.{compare-After-at-e, compare-Then-is_held, compute-After-node_kind, ends-Then-is_held, evaluate-Then-is_known, evaluate-After-set_place, sweep_entry-After-path_kind}
+use Rattle.evaluation.proofs.judged.Judged.+evaluation.Goals.{compare-After-at-e, compare-Then-is_held-2, compute-After-node_kind, ends-Then-is_held, evaluate-Then-is_known, evaluate-After-set_place, sweep_entry-After-path_kind}
 use Rattle.evaluation.proofs.judged.Judged.+evaluation.Goals as goal
 
 pub compare-at-e-requires : goal.compare-at-e-requires
@@ -40,26 +39,25 @@ fields_of_compare t c =
     )
 
 -- both paths have their rows
-rowed_of_compare : (t : ℕ) (c : compare-Then-is_held t)
+rowed_of_compare : (t : ℕ) (c : compare-Then-is_held-2 t)
     → let a = c.args in
-    Rowed a.self.now.p.now a.self.now.table.now a.self.now.alike.now a.self.now.n a.known.now.rows.now c.at-e.result.y (mark_of a.known.now.marks c.at-e.result.y)
-    × Rowed a.self.now.p.now a.self.now.table.now a.self.now.alike.now a.self.now.n a.known.now.rows.now c.at-e.result.z (mark_of a.known.now.marks c.at-e.result.z)
+    Rowed a.self.now.p.now a.self.now.table.now a.self.now.alike.now a.self.now.n a.known.now.rows.now c.at-e.result.y (mark_of a.known.now.marks.now c.at-e.result.y)
+    × Rowed a.self.now.p.now a.self.now.table.now a.self.now.alike.now a.self.now.n a.known.now.rows.now c.at-e.result.z (mark_of a.known.now.marks.now c.at-e.result.z)
 rowed_of_compare t c =
-    let f = fields_of_compare t (goal.at.compare-Then-is_held t c).After-at-e in
-    let both = and_is_true c.is_held.result c.is_held-2.result c.if-is_held.true in (
-      c.requires.learned.held c.at-e.result.y f.1 (sym c.is_held.ensures ∙ both.0),
-      c.requires.learned.held c.at-e.result.z f.2 (sym c.is_held-2.ensures ∙ both.1),
+    let f = fields_of_compare t (goal.at.compare-Then-is_held-2 t c).After-at-e in (
+      c.requires.learned.held c.at-e.result.y f.1 (sym c.is_held.ensures ∙ c.if-is_held.true),
+      c.requires.learned.held c.at-e.result.z f.2 (sym c.is_held-then-is_held.ensures ∙ c.if-is_held-2.true),
     )
 
 pub compare-compare_rows-requires : goal.compare-compare_rows-requires
-compare-compare_rows-requires t c = let r = rowed_of_compare t (goal.at.compare-compare_rows-requires t c).Then-is_held in record {
+compare-compare_rows-requires t c = let r = rowed_of_compare t (goal.at.compare-compare_rows-requires t c).Then-is_held-2 in record {
   alike_rows_in_bounds = (c.args.self.now.lent.alike_long, (fields_of_compare t (goal.at.compare-compare_rows-requires t c).After-at-e).0, c.args.self.now.lent.narrow);
   rows_fit = (rw c.row_of_path-first.ensures r.0.fits, rw c.row_of_path-second.ensures r.1.fits);
 }
 
-pub compare-returns-then-is_held : goal.compare-returns-then-is_held
-compare-returns-then-is_held t c = let a = c.args in
-    let r = rowed_of_compare t (goal.at.compare-returns-then-is_held t c).Then-is_held in
+pub compare-returns-then-is_held-2 : goal.compare-returns-then-is_held-2
+compare-returns-then-is_held-2 t c = let a = c.args in
+    let r = rowed_of_compare t (goal.at.compare-returns-then-is_held-2 t c).Then-is_held-2 in
     evaluates_compare c.args.self.now.lent a.k c.requires.k_bound.0 a.c c.requires.k_bound.1 c.compare_rows.result
     (collects_rows c.args.self.now.lent a.k c.requires.k_bound.0 a.c c.requires.k_bound.1 a.known.now.rows.now _ _ c.at-e.result c.compare_rows.result c.at-e.ensures r.0.ends r.1.ends (rw (c.row_of_path-first.ensures, c.row_of_path-second.ensures) at c.compare_rows.ensures))
 
@@ -159,7 +157,7 @@ compute-returns-in-After t c = let n = entry_of_compute t (goal.at.compute-retur
 
 rowed_of_ends : (t : ℕ) (c : ends-Then-is_held t)
     → let a = c.args in
-    Rowed a.self.now.p.now a.self.now.table.now a.self.now.alike.now a.self.now.n a.known.now.rows.now a.path (mark_of a.known.now.marks a.path)
+    Rowed a.self.now.p.now a.self.now.table.now a.self.now.alike.now a.self.now.n a.known.now.rows.now a.path (mark_of a.known.now.marks.now a.path)
 rowed_of_ends t c = c.requires.learned.held c.args.path c.requires.path_of.0 (sym c.is_held.ensures ∙ c.if-is_held.true)
 
 pub ends-returns-then-is_held : goal.ends-returns-then-is_held
@@ -188,7 +186,7 @@ ends-returns t c = let a = c.args in
 -- the set is in the area where the mark says so
 stored_of_evaluate : (t : ℕ) (c : evaluate-Then-is_known t)
     → let a = c.args in
-    Stored a.self.now.p.now a.self.now.table.now a.self.now.alike.now a.self.now.n a.known.now.area.now a.k (mark_of a.known.now.marks a.k)
+    Stored a.self.now.p.now a.self.now.table.now a.self.now.alike.now a.self.now.n a.known.now.area.now a.k (mark_of a.known.now.marks.now a.k)
 stored_of_evaluate t c = c.requires.learned.sets c.args.k c.requires.k_bound.0 c.requires.k_bound.1 (sym c.is_known.ensures ∙ c.if-is_known.true)
 
 -- and is looked for at its place

@@ -28,8 +28,8 @@ overflow_add-place c = record { fits = omega (arith, place_is (goal.at.overflow_
 pub loop-k-preserved : goal.loop-k-preserved
 loop-k-preserved c = (
   elim c.if-self-k-ne0.branch [
-    | then-self-k-ne0 w ↦ rw w.known-is w.learn.ensures
-    | else-self-k-ne0 w ↦ rw w.known-is c.loop-k.invariant.0
+    | then-self-k-ne0 w ↦ rw w.memory-is w.learn.ensures
+    | else-self-k-ne0 w ↦ rw w.memory-is c.loop-k.invariant.0
   ],
   place_is (goal.at.loop-k-preserved c).After-from-place,
 )

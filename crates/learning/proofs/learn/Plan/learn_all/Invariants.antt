@@ -6,4 +6,4 @@ use Rattle.learning.specs.Learns.{Ready}
 use Rattle.learning.proofs.learn.Plan.learn_all.Given as goal
 
 abbrev pub invariant-loop-k : goal.invariant-loop-k
-invariant-loop-k l = Ready l.self l.known × (l.place ≡ place_of l.self.q.now.p.now l.k)
+invariant-loop-k l = Ready l.self l.memory × (l.place ≡ place_of l.self.q.now.p.now l.k)

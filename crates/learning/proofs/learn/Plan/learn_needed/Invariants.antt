@@ -4,4 +4,4 @@ use Rattle.learning.specs.Learns.{Ready}
 use Rattle.learning.proofs.learn.Plan.learn_needed.Given as goal
 
 abbrev pub invariant-loop-j : goal.invariant-loop-j
-invariant-loop-j l = Ready l.self l.known
+invariant-loop-j l = Ready l.self l.memory
