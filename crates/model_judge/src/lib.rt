@@ -38,7 +38,9 @@ fn check_listed(p: &[u8], n: u8, d: &[u8]) -> Result<(), JudgeRefusal>
 fn judged(s: NodeSet) -> Option<Met>
     ensures { judged_as result ≡ judged_by width (has s) }
 {
-    let lowest = s.lowest()?;
+    let Some(lowest) = s.lowest() else {
+        return None;
+    };
     let number = s.count();
     Some(Met { lowest, number })
 }

@@ -24,7 +24,7 @@ fn property_set(d: &[u8], p: u8) -> NodeSet
     requires p_le_max_property { p ≤ max_property }
     ensures { IsSet (model_from d.now) (λ u. has_property d.now p u.0 ≡ true) result }
 {
-    NodeSet::below(node_count(d)).filter(|u| has_property(d, p, u))
+    NodeSet::filter_below(node_count(d), |u| has_property(d, p, u))
 }
 
 // The row of the property of an entry, if it has one, gets the nodes that have it.

@@ -14,7 +14,7 @@ HasExactly P s = (u : ℕ) → (has s u ≡ true) ↔ P u
 
 -- ---- laws
 
-and_left : (a b : Bool) → a && b ≡ true → a ≡ true
+pub and_left : (a b : Bool) → a && b ≡ true → a ≡ true
 and_left true b h = refl
 and_left false b h = h
 

@@ -83,6 +83,11 @@ pub number_back : (s : NodeSet) → set_of (number_of s) ≡ s
 unfolding number_of set_of
 number_back s = refl
 
+-- sets that compare equal are one set
+pub equal_is : (s t : NodeSet) → eqb s.bits t.bits ≡ true → s ≡ t
+unfolding number_of
+equal_is s t h = sym (number_back s) ∙ ap set_of (eqb-true s.bits t.bits h) ∙ number_back t
+
 pub has_beyond : (s : NodeSet) (u : ℕ) → width ≤ u → has s u ≡ false
 unfolding has
 has_beyond s u h = ap (λ (t : Bool). t && on u s.bits) (le-ltb u width h)

@@ -150,6 +150,20 @@ impl NodeSet {
         kept
     }
 
+    // The nodes below n that pass a test. As a filter of the set of the nodes below n it takes longer: a counter
+    // needn't find the next member.
+    pub fn filter_below<P: Fn(u8) -> bool>(n: u8, test: P) -> NodeSet
+        requires n_le_width { n ≤ width }
+        requires callable { (u : ℕ) → u < n → P.pre test u }
+        ensures { Filtered (P.post test) (below n) result }
+    {
+        let mut found = NodeSet::empty();
+        for u in 0..n {
+            found = found.insert_if(u, test(u));
+        }
+        found
+    }
+
     #[tactic(auto, using(crate::proofs::Counted::ones_size))]
     pub fn count(self) -> u8
         ensures { result ≡ size_of self }

@@ -154,9 +154,9 @@ pub fn compare_rows(
     requires rows_fit { RowsFit rows.now n first × RowsFit rows.now n second }
     ensures { RowsCompared alike.now rows.now n channel c first second result }
 {
-    NodeSet::below(n).filter(|u| {
-        let s = NodeSet::load(rows, first + (u as usize));
-        let t = NodeSet::load(rows, second + (u as usize));
-        some_pair(alike, channel, c, s, t)
+    NodeSet::filter_below(n, |u| {
+        let here = NodeSet::load(rows, first + (u as usize));
+        let there = NodeSet::load(rows, second + (u as usize));
+        some_pair(alike, channel, c, here, there)
     })
 }

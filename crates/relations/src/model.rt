@@ -83,5 +83,5 @@ pub fn before(table: &[u8], n: u8, axis: u8, s: NodeSet) -> NodeSet
     requires n_le_width { (n ≤ width) × (axis ≤ max_axis) }
     ensures { HasExactly (Before table.now n axis s) result }
 {
-    NodeSet::below(n).filter(|u| !successors(table, axis, u).meet(s).is_empty())
+    NodeSet::filter_below(n, |u| !successors(table, axis, u).meet(s).is_empty())
 }

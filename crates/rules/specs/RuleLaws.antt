@@ -1,5 +1,5 @@
--- What the code's proofs of the rules rest on: arguments that are made into names and channels, where the line Q leads, a
--- line seen as one of its forms, and which rules a line P fits, by their numbers.
+-- Which rules a line P fits, by their numbers, on which the code's proofs of the rules rest; and what joins the rules' equations to the code's
+-- parts: arguments that are made into names and channels, where the line Q leads, a line seen as one of its forms.
 -- Assumes nothing.
 use Rattle.std.specs.Prelude.{◌≡◌, refl, Bool, true, false, ◌&&◌, ◌||◌, List, ℕ, leb, Option, Some, None}
 use Rattle.std.proofs.Common.{sym, ap, ◌∙◌}

@@ -13,7 +13,7 @@ use pattern::entry::Entry;
 use pattern::table::{END, Field};
 
 // As many marks as references, and as many tags.
-const REFERENCES: usize = END as usize + 1;
+pub const REFERENCES: usize = END as usize + 1;
 
 #[derive(Drop)]
 pub struct Marks {

@@ -50,12 +50,15 @@ pub fn word64(s: &[u8], i: usize) -> u64
     ])
 }
 
-// Puts the bytes of a slice at a place of another.
+// Puts the bytes of a slice at a place of another, one by one: `copy_from_slice` would want `memmove` of whoever
+// links the library, which it needs for nothing else.
 pub fn copy_at(out: &mut [u8], at: usize, bytes: &[u8])
     requires { at + length bytes.now ≤ length out.old }
     ensures { out.new ≡ put_from out.old at 0 bytes.now }
 {
-    out[at..at + bytes.len()].copy_from_slice(bytes);
+    for k in 0..bytes.len() {
+        out[at + k] = bytes[k];
+    }
 }
 
 // Puts a 16-bit little-endian number at a place of a slice.

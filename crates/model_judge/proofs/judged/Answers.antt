@@ -7,11 +7,11 @@ use Rattle.decision.specs.Judged.{met}
 use Rattle.decision.proofs.Judged.{judged_empty, judged_low}
 use Rattle.model_judge.proofs.judged.Goals as goal
 
-pub returns-in_err-lowest : goal.returns-in_err-lowest
-returns-in_err-lowest c = let s = c.args.s in
-    rw c.from_residual.ensures (sym (judged_empty width (has s) (eqb-true (size_of s) 0 c.in_err-lowest.ensures)))
+pub returns-in_default : goal.returns-in_default
+returns-in_default c = let s = c.args.s in
+    sym (judged_empty width (has s) (eqb-true (size_of s) 0 c.in_default.ensures))
 
 pub returns : goal.returns
 returns c = let s = c.args.s in
-    let some = (lowest_member s c.in_ok-lowest.ensures.0).0 in
-    ap₂ met c.in_ok-lowest.ensures.1 c.count-number.ensures ∙ sym (judged_low width (has s) some)
+    let some = (lowest_member s c.in-Some.ensures.0).0 in
+    ap₂ met c.in-Some.ensures.1 c.count-number.ensures ∙ sym (judged_low width (has s) some)

@@ -1,7 +1,8 @@
--- `path_rows::leads_alike` meets its contract: sets of the same bits are one set.
+-- `path_rows::leads_alike` meets its contract: sets that compare equal are one set.
 -- Assumes nothing.
-use Rattle.std.proofs.Common.{◌≡◌, sym, ap, ◌∙◌, ℕ, rules, eqb-true}
+use Rattle.std.proofs.Common.{sym, ◌∙◌, rules}
 use mathlib.Core.Bool.{false≢true}
+use Rattle.nodeset.specs.Set.{equal_is}
 use Rattle.path_rows.proofs.leads_alike.Goals as goal
 
 pub returns-then-u-eq0 : goal.returns-then-u-eq0
@@ -9,5 +10,5 @@ returns-then-u-eq0 c h = absurd (false≢true h)
 
 pub returns : goal.returns
 returns c h =
-    let same : c.successors-2.result ≡ c.successors.result = ap (λ (n : ℕ). record { bits = n }) (sym (eqb-true _ _ (sym c.eq.ensures ∙ h))) in
+    let same = sym (equal_is c.successors.result c.successors-2.result (sym c.eq.ensures ∙ h)) in
     (search rules, rw (c.successors-2.ensures, c.successors.ensures) at same)

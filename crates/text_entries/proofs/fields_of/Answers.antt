@@ -7,14 +7,14 @@ use Rattle.text_entries.proofs.fields_of.Goals as goal
 pub number_of-requires : goal.number_of-requires
 number_of-requires c =
     let reach = fields_small c.args.cells.now c.requires.cell_is.0 c.args.cell c.requires.cell_is.1 in
-    omega (arith, reach.0, c.requires.cell_bound)
+    omega (arith, reach.0, reach.1, reach.2, c.requires.cell_bound)
 
 pub number_of-requires-2 : goal.number_of-requires-2
 number_of-requires-2 c =
     let reach = fields_small c.args.cells.now c.requires.cell_is.0 c.args.cell c.requires.cell_is.1 in
-    omega (arith, reach.1, c.requires.cell_bound)
+    omega (arith, reach.0, reach.1, reach.2, c.requires.cell_bound)
 
 pub number_of-requires-3 : goal.number_of-requires-3
 number_of-requires-3 c =
     let reach = fields_small c.args.cells.now c.requires.cell_is.0 c.args.cell c.requires.cell_is.1 in
-    omega (arith, reach.2, c.requires.cell_bound)
+    omega (arith, reach.0, reach.1, reach.2, c.requires.cell_bound)

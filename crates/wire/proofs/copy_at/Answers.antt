@@ -1,16 +1,21 @@
--- `wire::copy_at` meets its contract: what stands around the bytes stored stays.
+-- `wire::copy_at` meets its contract: each pass stores one byte more, and what is left to store after it is the rest of the bytes.
 -- Assumes nothing.
-use Rattle.std.proofs.Common.{◌≡◌, sym, ◌∙◌, ap, ℕ, List, ◌++◌, ◌+◌, ◌-◌, arith, length, take, drop, drop-drop, append_assoc}
-use Rattle.wire.specs.Onto.{put_from_at}
+use Rattle.std.proofs.Common.{rules, refl, sym, ap, ◌∙◌, ℕ, List, length-set, drop_of_length-le}
+use Rattle.wire.specs.Blocks.{put_from, from_next}
 use Rattle.wire.proofs.copy_at.Goals as goal
+
+pub loop-k-init : goal.loop-k-init
+loop-k-init c = (refl, refl)
+
+pub loop-k-preserved : goal.loop-k-preserved
+loop-k-preserved c =
+    let a = c.args in (
+      simp length-set c.loop-k.invariant.0,
+      from_next c.loop-k.out a.at c.loop-k.k a.bytes.now (search rules) ∙ c.loop-k.invariant.1,
+    )
 
 pub returns : goal.returns
 returns c =
     let a = c.args in
-    let xs = a.out.now in
-    let bs = a.bytes.now in
-    let end : a.at + (a.at + length bs - a.at) ≡ a.at + length bs = omega arith in
-    rw c.copy_from_slice.ensures.after
-    (sym (append_assoc (take a.at xs) bs _)
-    ∙ ap (λ (zs : List ℕ). take a.at xs ++ bs ++ zs) (drop-drop (a.at + length bs - a.at) a.at xs ∙ ap (λ (n : ℕ). drop n xs) end)
-    ∙ sym (put_from_at xs a.at bs c.requires))
+    ap (λ (bs : List ℕ). put_from c.loop-k.out a.at c.loop-k.k bs) (sym (drop_of_length-le a.bytes.now {i = c.loop-k.k} (search rules)))
+    ∙ c.loop-k.invariant.1

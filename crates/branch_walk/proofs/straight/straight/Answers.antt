@@ -1,5 +1,6 @@
 -- `branch_walk::straight::straight` meets its contract: the steps passed lead on from the first to the one that is next.
 -- Assumes nothing.
+use Rattle.std.proofs.Common.{rules}
 use Rattle.branch_walk.specs.StraightLaws.{straight_grows, straight_stops, straight_open}
 use Rattle.branch_walk.proofs.straight.straight.Goals as goal
 
@@ -16,4 +17,4 @@ pub loop-i-preserved : goal.loop-i-preserved
 loop-i-preserved c = straight_grows c.loop-i.invariant (rw c.in-Ok-Grown.field-0-is at c.in-Ok-Grown.ensures)
 
 pub returns : goal.returns
-returns c = straight_open c.loop-i.invariant c.loop-i-test.false
+returns c = straight_open c.loop-i.invariant (search rules)
