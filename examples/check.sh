@@ -3,8 +3,14 @@
 # every sample folder that has both files: each line must be the one that crates/readings/stdout has; and `order` on a
 # block as it was sent, of which it must make the sample of the same block in order, byte for byte, and on one of no
 # nodes; and `type` on the text of a sample's pattern, which it must write byte for byte, and on one with a newline.
+# First it looks at what the library wants of whoever links it: a unit may have no C library.
 set -eu
 cd "$(dirname "$0")/.."
+wanted=$(nm -u target/staticlib/libjudge.a | awk '$1 == "U" { print $2 }' | sort -u | tr '\n' ' ')
+if [ "$wanted" != "memcpy memset " ]; then
+    echo "check.sh: the library wants $wanted of whoever links it, not memcpy and memset alone" >&2
+    exit 1
+fi
 mkdir -p target/c
 for example in empty judge order type; do
     ${CC:-cc} -std=c11 -O2 -Wall -Wextra -Wpedantic -Werror -I include "examples/$example.c" target/staticlib/libjudge.a -o "target/c/$example"

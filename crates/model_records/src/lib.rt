@@ -25,7 +25,7 @@ pub struct NameRecord {
     pub node: u8,
 }
 
-// An edge, compared as document 02 orders them: by from, then axis, then to.
+// An edge. Its derived order goes by from, then axis, then to; the checks compare edges as numbers.
 #[derive(Clone, Copy, PartialEq, Eq, PartialOrd, Ord)]
 pub struct Edge {
     pub from: u8,
