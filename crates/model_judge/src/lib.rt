@@ -38,7 +38,7 @@ fn check_listed(p: &[u8], n: u8, d: &[u8]) -> Result<(), JudgeRefusal>
 fn judged(s: NodeSet) -> Option<Met>
     ensures { judged_as result ≡ judged_by width (has s) }
 {
-    // No `?`: an edit changes what is answered here, and nothing else.
+    // No `?`, so that the must-fail edit `invents_a_node` changes this answer and nothing else.
     let Some(lowest) = s.lowest() else {
         return None;
     };
