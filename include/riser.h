@@ -4,7 +4,8 @@
  * Each function takes any bytes of any length and answers one number: riser_model_area a number of bytes,
  * the others a packed finding. A pointer may be anything, NULL included, where its length is 0. The working
  * area must overlap neither of the other byte strings, and the destination must not overlap the old file or
- * the text. Nothing outside the given lengths is read or written.
+ * the text. Nothing outside the given lengths is read or written. Of whoever links it, the library wants
+ * memcpy and memset alone.
  *
  * Stack that was enough on the deepest inputs: 2.5 KB for reading and for riser_model_area, 60 KB for judging
  * a model, 16 KB for judging a tableau, 4.5 KB for putting a model in order, 22 KB for a typed pattern. 64 KB
